@@ -1,2 +1,5 @@
 mod Steps
-mod Fronts
+mod Next
+mod Splits
+mod Found
+mod Laws

@@ -62,10 +62,10 @@ abbrev pub orEnd : List ℕ → ℕ → Result (Option Lexeme) Fault
 orEnd [] place = Ok None
 orEnd (b ∷ s) place = found (frontToken (b ∷ s) place)
 
--- Where the blanks from a place on end.
-abbrev pub pastBlanks : List ℕ → ℕ → ℕ
-pastBlanks text at = at + reachOf Blanks (drop at text)
+-- The next token in the bytes from a place on, past the blanks there.
+unfoldable pub nextFrom : List ℕ → ℕ → Result (Option Lexeme) Fault
+nextFrom s at = orEnd (drop (reachOf Blanks s) s) (at + reachOf Blanks s)
 
--- The next token from a place on, past the blanks there.
-unfoldable pub nextToken : List ℕ → ℕ → Result (Option Lexeme) Fault
-nextToken text at = orEnd (drop (pastBlanks text at) text) (pastBlanks text at)
+-- The next token of a text from a place on.
+abbrev pub nextToken : List ℕ → ℕ → Result (Option Lexeme) Fault
+nextToken text at = nextFrom (drop at text) at

@@ -4,3 +4,4 @@ pub mod Signs
 pub mod Numbers
 pub mod Tokens
 pub mod Lexing
+pub mod Layout

@@ -4,7 +4,7 @@ use lib.ListN.{take}
 use Rattle.std.specs.declared.result.Result.the-variants.{Ok}
 use Rattle.classes.specs.declared.Class.the-variants.{Letter, Digit, Sign, Twin, Blank, Other}
 use Rattle.lexer.specs.Tokens.{lexeme, sign}
-use Rattle.lexer.proofs.Fronts.{front-class}
+use Rattle.lexer.proofs.Next.{front-class}
 use Rattle.lexer.proofs.token.front_token.Needs as need
 
 pub returns-in-Letter : need.returns-in-Letter

@@ -1,7 +1,7 @@
 use mathlib.Core.Path.{sym, _∙_, ap}
 use Rattle.std.proofs.shelf.Results.{err-from-errBy}
 use Rattle.lexer.specs.Lexing.{found}
-use Rattle.lexer.proofs.Fronts.{next-none, next-ended, next-front}
+use Rattle.lexer.proofs.Next.{next-none, next-ended, next-front}
 use Rattle.lexer.proofs.token.next_token.Needs as need
 
 pub returns-then-at-text : need.returns-then-at-text
