@@ -1,7 +1,7 @@
 -- The next token is what the layout says, the layout is the only one, and blanks between tokens do not matter.
 use mathlib.Core.Path.{_≡_, refl, sym, ap, _∙_, subst}
 use mathlib.Core.Bool.{Bool, true, false, cond, not, _&&_}
-use mathlib.Core.List.{List, [], _∷_, _++_, map, append-nil}
+use mathlib.Core.List.{List, [], _∷_, _++_, map, append-nil, append-assoc}
 use mathlib.Core.Logic.{_⊎_, inl, inr}
 use Prim.Native.Nat.{ℕ, _+_, _≤_, _<_}
 use native.Mathlib.Omega.{arith}
@@ -12,6 +12,7 @@ use Rattle.std.specs.declared.result.Result.{Result}
 use Rattle.std.specs.declared.result.Result.the-variants.{Ok, Err}
 use Rattle.std.proofs.shelf.Lists.{drop-at, drop-all, drop-drop}
 use Rattle.faults.specs.declared.Fault.{Fault}
+use Rattle.faults.specs.declared.Fault.the-variants.{Memory}
 use Rattle.classes.specs.Bytes.{isBlank, isLetter, isDigit, isSign, isTwin, classOf}
 use Rattle.classes.specs.declared.Class.{Class}
 use Rattle.classes.specs.declared.Class.the-variants.{Other, Blank, Letter, Digit, Sign, Twin}
@@ -33,10 +34,10 @@ blanks-class false false false true t = refl
 blanks-class false false false false true = refl
 blanks-class false false false false false = refl
 
-goes-blanks : (b : ℕ) → goes Blanks b ≡ isBlank b
+pub goes-blanks : (b : ℕ) → goes Blanks b ≡ isBlank b
 goes-blanks b = blanks-class (isBlank b) (isLetter b) (isDigit b) (isSign b) (isTwin b)
 
-every-blank : (s : List ℕ) → every Blanks s ≡ blank s
+pub every-blank : (s : List ℕ) → every Blanks s ≡ blank s
 every-blank [] = refl
 every-blank (b ∷ s) = rw (goes-blanks b, every-blank s)
 
@@ -54,7 +55,7 @@ first-solid Other s place t h = refl
 first-solid Blank s place t h = absurd (never h)
 
 -- The bytes of a token begin with no blank.
-token-solid : (w rest : List ℕ) (place : ℕ) (t : Lexeme) → frontToken w place ≡ Ok t → stopped Blanks (w ++ rest) ≡ true
+pub token-solid : (w rest : List ℕ) (place : ℕ) (t : Lexeme) → frontToken w place ≡ Ok t → stopped Blanks (w ++ rest) ≡ true
 unfolding frontToken
 token-solid [] rest place t h = absurd (never h)
 token-solid (b ∷ w) rest place t h = ap not (first-solid (classOf b) (b ∷ w) place t h)
@@ -118,3 +119,67 @@ ends-blank s at h =
     let none = sym (p .left) ∙ ended-nothing (drop (reachOf Blanks s) s) (at + reachOf Blanks s) h in
     let whole = p .whole ∙ ap (λ r. p .front ++ r) none ∙ append-nil (p .front) in
     sym (every-blank s) ∙ ap (every Blanks) whole ∙ p .all
+
+-- Behind a token lies what the text has from its end on.
+rest-is : (text : List ℕ) (from : ℕ) (t : Lexeme) (rest : List ℕ) → Begins (drop from text) from t rest → rest ≡ drop (after t) text
+rest-is text from t rest b =
+    let n : length (b .gap ++ t .bytes) ≡ length (b .gap) + length (t .bytes) = length-append (b .gap) (t .bytes) in
+    let m : from + length (b .gap ++ t .bytes) ≡ after t = let p = b .placed in omega arith in
+    sym (drop-at (b .gap ++ t .bytes) rest (length (b .gap ++ t .bytes)) refl)
+    ∙ ap (drop (length (b .gap ++ t .bytes))) (append-assoc (b .gap) (t .bytes) rest ∙ sym (b .whole))
+    ∙ drop-drop (length (b .gap ++ t .bytes)) from text
+    ∙ ap (λ k. drop k text) m
+
+-- A text that is cut up to its end is laid out so, and a text that is laid out so is cut so.
+pub cut-laid : (text : List ℕ) (from : ℕ) (ts : List Lexeme) (to : ℕ) → Cut text from ts to → nextToken text to ≡ Ok None → Laid (drop from text) from ts
+cut-laid text from [] to c e = ends-blank (drop from text) from (ap (nextToken text) c ∙ e)
+cut-laid text from (t ∷ ts) to c e =
+    let b = next-begins (drop from text) from t (c .0) in
+    (b .0, b .1, subst (λ r. Laid r (after t) ts) (sym (rest-is text from t (b .0) (b .1))) (cut-laid text (after t) ts to (c .1) e))
+
+pub laid-cut : (text : List ℕ) (from : ℕ) (ts : List Lexeme) → Laid (drop from text) from ts → (to : ℕ) × Cut text from ts to × (nextToken text to ≡ Ok None)
+laid-cut text from [] l = (from, refl, blank-ends (drop from text) from l)
+laid-cut text from (t ∷ ts) l =
+    let more = laid-cut text (after t) ts (subst (λ r. Laid r (after t) ts) (rest-is text from t (l .0) (l .1)) (l .2)) in
+    (more .0, (begins-next (drop from text) from t (l .0) (l .1), more .1), more .2)
+
+-- One token more is cut off.
+pub cut-more : (text : List ℕ) (from : ℕ) (ts : List Lexeme) (to : ℕ) (t : Lexeme) → Cut text from ts to → nextToken text to ≡ Ok (Some t) → Cut text from (ts ++ (t ∷ [])) (after t)
+cut-more text from [] to t c e = (ap (nextToken text) c ∙ e, refl)
+cut-more text from (u ∷ ts) to t c e = (c .0, cut-more text (after u) ts to t (c .1) e)
+
+-- Two cuts that can go no further are the same.
+abbrev pub Last : Result (Option Lexeme) Fault → Type 0
+Last r = (t : Lexeme) → r ≡ Ok (Some t) → ⊥
+
+pub cut-same : (text : List ℕ) (from : ℕ) (ts us : List Lexeme) (to up : ℕ) → Cut text from ts to → Cut text from us up → Last (nextToken text to) → Last (nextToken text up) → (ts ≡ us) × (to ≡ up)
+cut-same text from [] [] to up c d l m = (refl, sym c ∙ d)
+cut-same text from [] (u ∷ us) to up c d l m = absurd (l u (ap (nextToken text) (sym c) ∙ d .0))
+cut-same text from (t ∷ ts) [] to up c d l m = absurd (m t (ap (nextToken text) (sym d) ∙ c .0))
+cut-same text from (t ∷ ts) (u ∷ us) to up c d l m =
+    let same : t ≡ u = let q = sym (c .0) ∙ d .0 in cc in
+    let more = cut-same text (after t) ts us to up (c .1) (subst (λ x. Cut text (after x) us up) (sym same) (d .1)) l m in
+    (let e = more .0 in cc, more .1)
+
+last-none : (r : Result (Option Lexeme) Fault) → r ≡ Ok None → Last r
+last-none r e t h = none-some (sym e ∙ h)
+
+last-err : (r : Result (Option Lexeme) Fault) (f : Fault) → r ≡ Err f → Last r
+last-err r f e t h = never (sym e ∙ h)
+
+-- A text of the allowed length that is laid out as tokens has these tokens, and no others.
+pub only : (text : List ℕ) (r : Result (List Lexeme) Fault) (us : List Lexeme) → Answers text r → length text ≤ 16384 → Laid text 0 us → (r ≡ Ok us) ⊎ (r ≡ Err Memory)
+only text (Ok ts) us a n l =
+    let d = laid-cut text 0 us l in
+    let c = laid-cut text 0 ts (a .1) in
+    inl (ap Ok (cut-same text 0 ts us (c .0) (d .0) (c .1) (d .1) (last-none _ (c .2)) (last-none _ (d .2)) .0))
+only text (Err f) us a n l =
+    elim a [
+      inl long ↦ absurd (omega (arith, long .1))
+    | inr (inl broken) ↦
+        let c = broken .3 in
+        let d = laid-cut text 0 us l in
+        let same = cut-same text 0 (c .0) us (c .1) (d .0) (c .2) (d .1) (last-err _ _ (c .3)) (last-none _ (d .2)) in
+        absurd (never (sym (c .3) ∙ ap (nextToken text) (same .1) ∙ d .2))
+    | inr (inr memory) ↦ inr (ap Err (memory .1))
+    ]

@@ -3,3 +3,4 @@ mod Next
 mod Splits
 mod Found
 mod Laws
+mod Respacing

@@ -40,7 +40,7 @@ stopped run (b ∷ s) = not (goes run b)
 and-both : (a b : Bool) → a ≡ true → b ≡ true → (a && b) ≡ true
 and-both a b p q = rw (p, q)
 
-and-first : (a b : Bool) → (a && b) ≡ true → a ≡ true
+pub and-first : (a b : Bool) → (a && b) ≡ true → a ≡ true
 and-first true b h = refl
 and-first false b h = h
 
