@@ -1,6 +1,7 @@
 //! The class of each byte of a model text: one table, its rule proved once.
 ghost use mathlib.Core.Path.{_≡_};
 ghost use Rattle.classes.specs.Bytes.{classOf};
+
 mod table;
 
 use table::CLASSES;

@@ -74,7 +74,11 @@ impl Fault {
             Fault::ListingShort { needed } => (15, 4, needed),
             Fault::Memory => return None,
         };
-        Some(Refusal { number, layer, place })
+        Some(Refusal {
+            number,
+            layer,
+            place,
+        })
     }
 }
 
@@ -98,7 +102,13 @@ pub impl<T: Drop> From<Refused<T>> for Fault as FaultFromRefused {
 pub impl fmt::Display for Fault as FaultDisplay {
     fn fmt<W: fmt::Write>(&self, f: &mut fmt::Formatter<W>) -> fmt::Result {
         match self.refusal() {
-            Some(Refusal { number, layer, place }) => write!(f, "refused {number} {layer} {place}"),
+            Some(
+                Refusal {
+                    number,
+                    layer,
+                    place,
+                },
+            ) => write!(f, "refused {number} {layer} {place}"),
             None => write!(f, "error: out of memory"),
         }
     }

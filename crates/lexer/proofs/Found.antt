@@ -2,10 +2,10 @@
 use mathlib.Core.Path.{_≡_, refl, sym, ap, _∙_, subst}
 use mathlib.Core.Bool.{Bool, true, false, cond, not}
 use mathlib.Core.List.{List, [], _∷_, _++_}
-use Prim.Native.Nat.{ℕ, _+_}
+use Prim.Native.Nat.{ℕ, _+_, _≤_, _<_}
 use native.Mathlib.Omega.{arith}
 use lib.Dec.{eqb}
-use lib.ListN.{length, getD, take, drop}
+use lib.ListN.{length, getD, take, drop, length-append}
 use Rattle.std.specs.declared.option.Option.{Option}
 use Rattle.std.specs.declared.option.Option.the-variants.{Some, None}
 use Rattle.std.specs.declared.result.Result.the-variants.{Ok, Err}
@@ -169,3 +169,12 @@ pub front-before : (w rest : List ℕ) (place : ℕ) (t : Lexeme) → t .bytes �
 unfolding frontToken
 front-before [] rest place t is e h = absurd (never h)
 front-before (b ∷ w) rest place t is e h = class-before (classOf b) b w rest place t is e h
+
+-- A token has at least one byte, and no more than the bytes that it was found in.
+pub front-size : (s : List ℕ) (place : ℕ) (t : Lexeme) → frontToken s place ≡ Ok t → length (t .bytes) ≤ length s
+front-size s place t h = let f = front-found s place t h in omega (arith, simp length-append at (ap length (f .whole)))
+
+pub token-some : (w : List ℕ) (place : ℕ) (t : Lexeme) → frontToken w place ≡ Ok t → 0 < length w
+unfolding frontToken
+token-some [] place t h = absurd (never h)
+token-some (b ∷ w) place t h = omega arith

@@ -3,16 +3,18 @@ use mathlib.Core.Path.{_≡_, refl, sym, ap, _∙_, subst}
 use mathlib.Core.Bool.{Bool, true, false, cond, not, _&&_}
 use mathlib.Core.List.{List, [], _∷_, _++_, map, append-nil, append-assoc}
 use mathlib.Core.Logic.{_⊎_, inl, inr}
-use Prim.Native.Nat.{ℕ, _+_, _≤_, _<_}
+use Prim.Native.Nat.{ℕ, _+_, _-_, _≤_, _<_}
 use native.Mathlib.Omega.{arith}
-use lib.ListN.{length, getD, take, drop, length-append}
+use lib.Dec.{eqb}
+use lib.ListN.{length, getD, take, drop, length-append, length-drop}
 use Rattle.std.specs.declared.option.Option.{Option}
 use Rattle.std.specs.declared.option.Option.the-variants.{Some, None}
 use Rattle.std.specs.declared.result.Result.{Result}
 use Rattle.std.specs.declared.result.Result.the-variants.{Ok, Err}
-use Rattle.std.proofs.shelf.Lists.{drop-at, drop-all, drop-drop}
+use Rattle.std.proofs.shelf.Lists.{take-at, drop-at, drop-all, drop-drop}
+use Rattle.std.specs.Holes.{between}
 use Rattle.faults.specs.declared.Fault.{Fault}
-use Rattle.faults.specs.declared.Fault.the-variants.{Memory}
+use Rattle.faults.specs.declared.Fault.the-variants.{NoToken, Memory}
 use Rattle.classes.specs.Bytes.{isBlank, isLetter, isDigit, isSign, isTwin, classOf}
 use Rattle.classes.specs.declared.Class.{Class}
 use Rattle.classes.specs.declared.Class.the-variants.{Other, Blank, Letter, Digit, Sign, Twin}
@@ -20,10 +22,12 @@ use Rattle.lexer.specs.declared.runs.Run.{Run}
 use Rattle.lexer.specs.declared.runs.Run.the-variants.{Blanks, Word, Digits}
 use Rattle.lexer.specs.Runs.{goesOn, goes, reachOf}
 use Rattle.lexer.specs.Tokens.{Kind, name, number, keyword, sign, Lexeme, lexeme, after}
-use Rattle.lexer.specs.Lexing.{classToken, frontToken, found, orEnd, nextFrom, nextToken}
-use Rattle.lexer.specs.Layout.{blank, maximal, extends, Begins, Laid, Cut, Broken, Answers, apart, Respaced, unplaced, SameTokens}
+use Rattle.lexer.specs.Numbers.{numberOf}
+use Rattle.lexer.specs.Signs.{twinOf}
+use Rattle.lexer.specs.Lexing.{numberToken, classToken, frontToken, found, orEnd, nextFrom, nextToken, withEnd}
+use Rattle.lexer.specs.Layout.{blank, maximal, extends, Begins, Laid, Advances, Cut, Broken, Answers, apart, Respaced, unplaced, SameTokens}
 use Rattle.lexer.proofs.Splits.{Split, split, every, stopped, reach-glued}
-use Rattle.lexer.proofs.Found.{Front, front-found, front-before, never}
+use Rattle.lexer.proofs.Found.{Front, front-found, front-before, token-some, never}
 
 -- A blank goes on with blanks, and with nothing else.
 blanks-class : (b l d g t : Bool) → goesOn Blanks (cond b Blank (cond l Letter (cond d Digit (cond g Sign (cond t Twin Other))))) ≡ b
@@ -78,15 +82,17 @@ unfolding nextFrom
 next-begins s at t h =
     let p = split Blanks s in
     let past : orEnd (p .back) (at + length (p .front)) ≡ Ok (Some t) = ap (λ r. orEnd r (at + length (p .front))) (sym (p .left)) ∙ ap (λ n. orEnd (drop (reachOf Blanks s) s) (at + n)) (sym (p .size)) ∙ h in
-    let f = end-front (p .back) (at + length (p .front)) t past in
-    (f .rest, record {
-      gap = p .front;
-      whole = p .whole ∙ ap (λ r. p .front ++ r) (f .whole);
-      blanks = sym (every-blank (p .front)) ∙ p .all;
-      placed = f .placed;
-      spelled = ap (frontToken (t .bytes)) (f .placed) ∙ f .spelled;
-      ends = f .ends;
-    })
+    let f = end-front (p .back) (at + length (p .front)) t past in (
+      f .rest,
+      record {
+        gap = p .front;
+        whole = p .whole ∙ ap (λ r. p .front ++ r) (f .whole);
+        blanks = sym (every-blank (p .front)) ∙ p .all;
+        placed = f .placed;
+        spelled = ap (frontToken (t .bytes)) (f .placed) ∙ f .spelled;
+        ends = f .ends;
+      },
+    )
 
 pub begins-next : (s : List ℕ) (at : ℕ) (t : Lexeme) (rest : List ℕ) → Begins s at t rest → nextFrom s at ≡ Ok (Some t)
 unfolding nextFrom
@@ -175,11 +181,88 @@ only text (Ok ts) us a n l =
     inl (ap Ok (cut-same text 0 ts us (c .0) (d .0) (c .1) (d .1) (last-none _ (c .2)) (last-none _ (d .2)) .0))
 only text (Err f) us a n l =
     elim a [
-      inl long ↦ absurd (omega (arith, long .1))
-    | inr (inl broken) ↦
-        let c = broken .3 in
-        let d = laid-cut text 0 us l in
-        let same = cut-same text 0 (c .0) us (c .1) (d .0) (c .2) (d .1) (last-err _ _ (c .3)) (last-none _ (d .2)) in
-        absurd (never (sym (c .3) ∙ ap (nextToken text) (same .1) ∙ d .2))
-    | inr (inr memory) ↦ inr (ap Err (memory .1))
+      | inl long ↦ absurd (omega (arith, long .1))
+      | inr (inl broken) ↦
+          let c = broken .3 in
+          let d = laid-cut text 0 us l in
+          let same = cut-same text 0 (c .0) us (c .1) (d .0) (c .2) (d .1) (last-err _ _ (c .3)) (last-none _ (d .2)) in
+          absurd (never (sym (c .3) ∙ ap (nextToken text) (same .1) ∙ d .2))
+      | inr (inr memory) ↦ inr (ap Err (memory .1))
     ]
+
+-- The next token stands past blanks alone, is one byte or more of the text, and ends inside it.
+pub next-advances : (text : List ℕ) (at : ℕ) (t : Lexeme) → nextToken text at ≡ Ok (Some t) → Advances text at t
+next-advances text at t h =
+    let p = next-begins (drop at text) at t h in
+    let b = p .1 in
+    let placed : t .place ≡ at + length (b .gap) = b .placed in
+    let some : 0 < length (t .bytes) = token-some (t .bytes) (t .place) t (b .spelled) in
+    let sizes : length text - at ≡ length (b .gap) + (length (t .bytes) + length (p .0)) = sym (length-drop at text) ∙ simp length-append at (ap length (b .whole)) in
+    let before : between at (t .place) text ≡ b .gap = ap (take (t .place - at)) (b .whole) ∙ take-at (b .gap) (t .bytes ++ p .0) (t .place - at) (omega arith) in
+    let from : drop (t .place) text ≡ t .bytes ++ p .0 = ap (λ n. drop n text) placed ∙ sym (drop-drop (length (b .gap)) at text) ∙ ap (drop (length (b .gap))) (b .whole) ∙ drop-at (b .gap) (t .bytes ++ p .0) (length (b .gap)) refl in
+    record {
+      blanks = ap blank before ∙ b .blanks;
+      bytes = sym (ap (take (after t - t .place)) from ∙ take-at (t .bytes) (p .0) (after t - t .place) (omega arith));
+      onward = omega arith;
+      some = omega arith;
+      within = omega arith;
+    }
+
+-- What an answer with the place after the token says of the answer without.
+pub end-none : (r : Result (Option Lexeme) Fault) → withEnd r ≡ Ok None → r ≡ Ok None
+end-none (Ok None) h = refl
+end-none (Ok (Some t)) h = cc
+end-none (Err f) h = cc
+
+pub end-some : (r : Result (Option Lexeme) Fault) (t : Lexeme) (e : ℕ) → withEnd r ≡ Ok (Some (t, e)) → (r ≡ Ok (Some t)) × (e ≡ after t)
+end-some (Ok None) t e h = absurd (none-some h)
+end-some (Ok (Some u)) t e h =
+    let same : _≡_ {A = Lexeme × ℕ} (u, after u) (t, e) = cc in
+    (ap (λ p. Ok (Some (p .0))) same, sym (ap (λ p. p .1) same) ∙ ap (λ p. after (p .0)) same)
+end-some (Err f) t e h = absurd (never h)
+
+pub end-err : (r : Result (Option Lexeme) Fault) (f : Fault) → withEnd r ≡ Err f → r ≡ Err f
+end-err (Ok o) f h = absurd (never (sym h))
+end-err (Err g) f h = cc
+
+-- A token is refused at its place, and for no other reason.
+class-refused : (k : Class) (s : List ℕ) (place : ℕ) (f : Fault) → classToken k s place ≡ Err f → f ≡ NoToken place
+class-refused Letter s place f h = absurd (never (sym h))
+class-refused Digit s place f h = number-refused (numberOf (take (reachOf Digits s) s)) h
+  where
+    number-refused : (o : Option ℕ) → numberToken o (take (reachOf Digits s) s) place ≡ Err f → f ≡ NoToken place
+    number-refused None h = cc
+    number-refused (Some n) h = absurd (never (sym h))
+class-refused Sign s place f h = absurd (never (sym h))
+class-refused Twin [] place f h = cc
+class-refused Twin (b ∷ []) place f h = cc
+class-refused Twin (b ∷ c ∷ s) place f h = twin-refused (eqb b c) h
+  where
+    twin-refused : (v : Bool) → cond v (Ok (lexeme (sign (twinOf b)) (b ∷ c ∷ []) place)) (Err (NoToken place)) ≡ Err f → f ≡ NoToken place
+    twin-refused true h = absurd (never (sym h))
+    twin-refused false h = cc
+class-refused Blank s place f h = cc
+class-refused Other s place f h = cc
+
+found-err : (r : Result Lexeme Fault) (f : Fault) → found r ≡ Err f → r ≡ Err f
+found-err (Ok t) f h = absurd (never (sym h))
+found-err (Err g) f h = cc
+
+end-refused : (s : List ℕ) (place : ℕ) (f : Fault) → orEnd s place ≡ Err f → f ≡ NoToken place
+unfolding frontToken
+end-refused [] place f h = absurd (never (sym h))
+end-refused (b ∷ s) place f h = class-refused (classOf b) (b ∷ s) place f (found-err (frontToken (b ∷ s) place) f h)
+
+pub next-refused : (text : List ℕ) (at : ℕ) (f : Fault) → nextToken text at ≡ Err f → (place : ℕ) × (f ≡ NoToken place)
+unfolding nextFrom
+next-refused text at f h = (at + reachOf Blanks (drop at text), end-refused _ _ f h)
+
+-- The answer once the text has ended, and where no token stands.
+pub answered : (text : List ℕ) (ts : List Lexeme) (to : ℕ) → length text ≤ 16384 → Cut text 0 ts to → withEnd (nextToken text to) ≡ Ok None → Answers text (Ok ts)
+answered text ts to n c e = (n, cut-laid text 0 ts to c (end-none (nextToken text to) e))
+
+pub refused : (text : List ℕ) (ts : List Lexeme) (to : ℕ) (f : Fault) → length text ≤ 16384 → Cut text 0 ts to → withEnd (nextToken text to) ≡ Err f → Answers text (Err f)
+refused text ts to f n c e =
+    let r = end-err (nextToken text to) f e in
+    let p = next-refused text to f r in
+    inr (inl (n, p .0, p .1, (ts, to, c, r ∙ ap Err (p .1))))

@@ -5,6 +5,7 @@ use mathlib.Core.List.{List, [], _∷_, _++_, map}
 use mathlib.Core.Logic.{_⊎_}
 use Prim.Native.Nat.{ℕ, _+_, _≤_, _<_}
 use lib.ListN.{length}
+use Rattle.std.specs.Holes.{between}
 use Rattle.std.specs.declared.option.Option.{Option}
 use Rattle.std.specs.declared.option.Option.the-variants.{Some, None}
 use Rattle.std.specs.declared.result.Result.{Result}
@@ -47,6 +48,14 @@ pub record Begins (s : List ℕ) (at : ℕ) (t : Lexeme) (rest : List ℕ) : Typ
 abbrev pub Laid : List ℕ → ℕ → List Lexeme → Type 0
 Laid s at [] = blank s ≡ true
 Laid s at (t ∷ ts) = (rest : List ℕ) × Begins s at t rest × Laid rest (after t) ts
+
+-- The next token from a place on: only blanks lie before it, it is one byte or more of the text, and ends inside it.
+pub record Advances (text : List ℕ) (at : ℕ) (t : Lexeme) : Type 0 where
+  pub blanks : blank (between at (t .place) text) ≡ true
+  pub bytes : t .bytes ≡ between (t .place) (after t) text
+  pub onward : at ≤ t .place
+  pub some : t .place < after t
+  pub within : after t ≤ length text
 
 -- From one place to another a text is cut into these tokens: each is the next one from the end of the token before it.
 abbrev pub Cut : List ℕ → ℕ → List Lexeme → ℕ → Type 0

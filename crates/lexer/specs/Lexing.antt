@@ -19,7 +19,7 @@ use Rattle.lexer.specs.Runs.{reachOf}
 use Rattle.lexer.specs.Keywords.{keywordOf}
 use Rattle.lexer.specs.Signs.{signOf, twinOf}
 use Rattle.lexer.specs.Numbers.{numberOf}
-use Rattle.lexer.specs.Tokens.{Kind, name, number, keyword, sign, Lexeme, lexeme}
+use Rattle.lexer.specs.Tokens.{Kind, name, number, keyword, sign, Lexeme, lexeme, after}
 
 -- A word is a keyword or a name.
 abbrev pub wordKind : Option Keyword → Kind
@@ -69,3 +69,12 @@ nextFrom s at = orEnd (drop (reachOf Blanks s) s) (at + reachOf Blanks s)
 -- The next token of a text from a place on.
 abbrev pub nextToken : List ℕ → ℕ → Result (Option Lexeme) Fault
 nextToken text at = nextFrom (drop at text) at
+
+-- A token with the place after it.
+abbrev pub endOf : Option Lexeme → Option (Lexeme × ℕ)
+endOf None = None
+endOf (Some t) = Some (t, after t)
+
+abbrev pub withEnd : Result (Option Lexeme) Fault → Result (Option (Lexeme × ℕ)) Fault
+withEnd (Ok o) = Ok (endOf o)
+withEnd (Err f) = Err f

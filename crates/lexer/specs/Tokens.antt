@@ -1,11 +1,13 @@
 -- What a token is, apart from the memory that it borrows.
-use mathlib.Core.List.{List}
+use mathlib.Core.List.{List, map}
 use Prim.Native.Nat.{ℕ, _+_}
 use lib.ListN.{length}
 use Rattle.std.specs.declared.option.Option.{Option}
 use Rattle.std.specs.declared.option.Option.the-variants.{Some, None}
 use Rattle.std.specs.declared.result.Result.{Result}
 use Rattle.std.specs.declared.result.Result.the-variants.{Ok, Err}
+use Rattle.std.specs.OverHeap.{Vec}
+use Rattle.std.specs.Of.Vec.{vec-items}
 use Rattle.faults.specs.declared.Fault.{Fault}
 use Rattle.lexer.specs.declared.keywords.Keyword.{Keyword}
 use Rattle.lexer.specs.declared.signs.Sign.{Sign}
@@ -47,10 +49,19 @@ abbrev pub frontRead : Result Token Fault → Result Lexeme Fault
 frontRead (Ok t) = Ok (lexemeOf t)
 frontRead (Err f) = Err f
 
-abbrev pub optionRead : Option Token → Option Lexeme
+-- The next token with the place after it, or the end of the text.
+abbrev pub optionRead : Option (Token × ℕ) → Option (Lexeme × ℕ)
 optionRead None = None
-optionRead (Some t) = Some (lexemeOf t)
+optionRead (Some n) = Some (lexemeOf (n .0), n .1)
 
-abbrev pub nextRead : Result (Option Token) Fault → Result (Option Lexeme) Fault
+abbrev pub nextRead : Result (Option (Token × ℕ)) Fault → Result (Option (Lexeme × ℕ)) Fault
 nextRead (Ok o) = Ok (optionRead o)
 nextRead (Err f) = Err f
+
+-- The tokens of a whole text.
+abbrev pub lexemes : Vec Token → List Lexeme
+lexemes v = map lexemeOf (vec-items v)
+
+abbrev pub allRead : Result (Vec Token) Fault → Result (List Lexeme) Fault
+allRead (Ok v) = Ok (lexemes v)
+allRead (Err f) = Err f

@@ -4,3 +4,4 @@ pub mod numbers;
 pub mod runs;
 pub mod signs;
 pub mod token;
+pub mod tokens;

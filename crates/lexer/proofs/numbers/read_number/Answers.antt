@@ -11,8 +11,8 @@ pub returns : need.returns
 unfolding numberOf
 returns c =
     elim (c .else-digits-gt1 .came) [
-      else-digits-gt1·by·then-digits-gt1·else-digits-eq48 w ↦ c .read-digits .ensures ∙ sym (cond-false _ _ _ (and-right _ _ (ne-eqb _ _ (w .if-digits-eq48 .left))))
-    | else-digits-gt1·by·else-digits-gt1 w ↦ c .read-digits .ensures ∙ sym (cond-false _ _ _ (and-left _ _ (le-ltb _ _ (w .if-digits-gt1 .left))))
+      | else-digits-gt1·by·then-digits-gt1·else-digits-eq48 w ↦ c .read-digits .ensures ∙ sym (cond-false _ _ _ (and-right _ _ (ne-eqb _ _ (w .if-digits-eq48 .left))))
+      | else-digits-gt1·by·else-digits-gt1 w ↦ c .read-digits .ensures ∙ sym (cond-false _ _ _ (and-left _ _ (le-ltb _ _ (w .if-digits-gt1 .left))))
     ]
 
 pub returns-then-digits-eq48 : need.returns-then-digits-eq48

@@ -24,6 +24,6 @@ returns-in-Twin c = c .twin-token .ensures ∙ sym (front-class _ _ Twin (c .in-
 pub returns-in-Blank : need.returns-in-Blank
 returns-in-Blank c =
     elim (c .in-Blank .is) [
-      inl e ↦ sym (front-class _ _ Blank (sym e ∙ c .class-of .ensures))
-    | inr e ↦ sym (front-class _ _ Other (sym e ∙ c .class-of .ensures))
+      | inl e ↦ sym (front-class _ _ Blank (sym e ∙ c .class-of .ensures))
+      | inr e ↦ sym (front-class _ _ Other (sym e ∙ c .class-of .ensures))
     ]
