@@ -7,7 +7,7 @@ mod table;
 use table::CLASSES;
 
 /// What a byte of a model text can be part of.
-#[derive(Clone, Copy, PartialEq, Eq, Debug)]
+#[derive(Clone, Copy)]
 pub enum Class {
     /// No token.
     Other,

@@ -3,7 +3,7 @@ use super::Class;
 
 /// The class of each of the 256 byte values, in their order.
 pub const CLASSES: [Class; 256] = [
-    // 0 to 15: control bytes, tab and line feed and carriage return among them
+    // 0 to 15
     Class::Other,
     Class::Other,
     Class::Other,
@@ -13,17 +13,14 @@ pub const CLASSES: [Class; 256] = [
     Class::Other,
     Class::Other,
     Class::Other,
-    Class::Blank,
-    Class::Blank,
+    Class::Blank, // tab
+    Class::Blank, // line feed
     Class::Other,
     Class::Other,
-    Class::Blank,
+    Class::Blank, // carriage return
     Class::Other,
     Class::Other,
-    // 16 to 31: control bytes
-    Class::Other,
-    Class::Other,
-    Class::Other,
+    // 16 to 31
     Class::Other,
     Class::Other,
     Class::Other,
@@ -37,105 +34,108 @@ pub const CLASSES: [Class; 256] = [
     Class::Other,
     Class::Other,
     Class::Other,
-    // 32 to 47: space ! " # $ % & ' ( ) * + , - . /
-    Class::Blank,
-    Class::Sign,
+    Class::Other,
+    Class::Other,
+    Class::Other,
+    // 32 to 47
+    Class::Blank, // space
+    Class::Sign, // !
     Class::Other,
     Class::Other,
     Class::Other,
     Class::Other,
-    Class::Twin,
+    Class::Twin, // &
     Class::Other,
-    Class::Sign,
-    Class::Sign,
-    Class::Sign,
-    Class::Sign,
-    Class::Sign,
-    Class::Sign,
-    Class::Sign,
-    Class::Sign,
-    // 48 to 63: 0 1 2 3 4 5 6 7 8 9 : ; < = > ?
-    Class::Digit,
-    Class::Digit,
-    Class::Digit,
-    Class::Digit,
-    Class::Digit,
-    Class::Digit,
-    Class::Digit,
-    Class::Digit,
-    Class::Digit,
-    Class::Digit,
+    Class::Sign, // (
+    Class::Sign, // )
+    Class::Sign, // *
+    Class::Sign, // +
+    Class::Sign, // ,
+    Class::Sign, // -
+    Class::Sign, // .
+    Class::Sign, // /
+    // 48 to 63
+    Class::Digit, // 0
+    Class::Digit, // 1
+    Class::Digit, // 2
+    Class::Digit, // 3
+    Class::Digit, // 4
+    Class::Digit, // 5
+    Class::Digit, // 6
+    Class::Digit, // 7
+    Class::Digit, // 8
+    Class::Digit, // 9
     Class::Other,
-    Class::Sign,
-    Class::Sign,
-    Class::Sign,
-    Class::Sign,
+    Class::Sign, // ;
+    Class::Sign, // <
+    Class::Sign, // =
+    Class::Sign, // >
     Class::Other,
-    // 64 to 79: @ A B C D E F G H I J K L M N O
+    // 64 to 79
     Class::Other,
-    Class::Letter,
-    Class::Letter,
-    Class::Letter,
-    Class::Letter,
-    Class::Letter,
-    Class::Letter,
-    Class::Letter,
-    Class::Letter,
-    Class::Letter,
-    Class::Letter,
-    Class::Letter,
-    Class::Letter,
-    Class::Letter,
-    Class::Letter,
-    Class::Letter,
-    // 80 to 95: P Q R S T U V W X Y Z [ \ ] ^ _
-    Class::Letter,
-    Class::Letter,
-    Class::Letter,
-    Class::Letter,
-    Class::Letter,
-    Class::Letter,
-    Class::Letter,
-    Class::Letter,
-    Class::Letter,
-    Class::Letter,
-    Class::Letter,
-    Class::Other,
-    Class::Other,
+    Class::Letter, // A
+    Class::Letter, // B
+    Class::Letter, // C
+    Class::Letter, // D
+    Class::Letter, // E
+    Class::Letter, // F
+    Class::Letter, // G
+    Class::Letter, // H
+    Class::Letter, // I
+    Class::Letter, // J
+    Class::Letter, // K
+    Class::Letter, // L
+    Class::Letter, // M
+    Class::Letter, // N
+    Class::Letter, // O
+    // 80 to 95
+    Class::Letter, // P
+    Class::Letter, // Q
+    Class::Letter, // R
+    Class::Letter, // S
+    Class::Letter, // T
+    Class::Letter, // U
+    Class::Letter, // V
+    Class::Letter, // W
+    Class::Letter, // X
+    Class::Letter, // Y
+    Class::Letter, // Z
     Class::Other,
     Class::Other,
     Class::Other,
-    // 96 to 111: ` a b c d e f g h i j k l m n o
     Class::Other,
-    Class::Letter,
-    Class::Letter,
-    Class::Letter,
-    Class::Letter,
-    Class::Letter,
-    Class::Letter,
-    Class::Letter,
-    Class::Letter,
-    Class::Letter,
-    Class::Letter,
-    Class::Letter,
-    Class::Letter,
-    Class::Letter,
-    Class::Letter,
-    Class::Letter,
-    // 112 to 127: p q r s t u v w x y z { | } ~ delete
-    Class::Letter,
-    Class::Letter,
-    Class::Letter,
-    Class::Letter,
-    Class::Letter,
-    Class::Letter,
-    Class::Letter,
-    Class::Letter,
-    Class::Letter,
-    Class::Letter,
-    Class::Letter,
     Class::Other,
-    Class::Twin,
+    // 96 to 111
+    Class::Other,
+    Class::Letter, // a
+    Class::Letter, // b
+    Class::Letter, // c
+    Class::Letter, // d
+    Class::Letter, // e
+    Class::Letter, // f
+    Class::Letter, // g
+    Class::Letter, // h
+    Class::Letter, // i
+    Class::Letter, // j
+    Class::Letter, // k
+    Class::Letter, // l
+    Class::Letter, // m
+    Class::Letter, // n
+    Class::Letter, // o
+    // 112 to 127
+    Class::Letter, // p
+    Class::Letter, // q
+    Class::Letter, // r
+    Class::Letter, // s
+    Class::Letter, // t
+    Class::Letter, // u
+    Class::Letter, // v
+    Class::Letter, // w
+    Class::Letter, // x
+    Class::Letter, // y
+    Class::Letter, // z
+    Class::Other,
+    Class::Twin, // |
     Class::Other,
     Class::Other,
     Class::Other,

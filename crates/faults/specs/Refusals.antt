@@ -1,5 +1,8 @@
 -- What each fault tells. Every contract speaks of refusals through this one definition.
+use mathlib.Core.List.{List, _++_}
 use Prim.Native.Nat.{ℕ}
+use lib.Chars.{codes}
+use Rattle.std.specs.Written.{decimal}
 use Rattle.std.specs.declared.option.Option.{Option}
 use Rattle.std.specs.declared.option.Option.the-variants.{Some, None}
 use Rattle.faults.specs.declared.Fault.{Fault}
@@ -28,3 +31,8 @@ refusalOf (TableFull t) = tells 13 6 t
 refusalOf (NotThere t) = tells 14 6 t
 refusalOf (ListingShort n) = tells 15 4 n
 refusalOf Memory = None
+
+-- What the console prints: a refusal by its three numbers; want of memory as an error.
+abbrev pub shownRefusal : Option Refusal → List ℕ
+shownRefusal None = codes "error: out of memory"
+shownRefusal (Some r) = codes "refused " ++ (decimal (r .number) ++ (codes " " ++ (decimal (r .layer) ++ (codes " " ++ decimal (r .place)))))

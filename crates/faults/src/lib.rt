@@ -1,6 +1,7 @@
 //! The refusals of the bench: one fault type, carried by `?` through every layer.
 ghost use mathlib.Core.Path.{_≡_};
-ghost use Rattle.faults.specs.Refusals.{refusalOf};
+ghost use Rattle.faults.specs.Refusals.{refusalOf, shownRefusal};
+ghost use Rattle.std.specs.declared.option.Option.the-variants.{Some};
 ghost use Rattle.faults.specs.declared.Fault.the-variants.{Memory};
 use std::alloc::AllocError;
 use std::alloc::Refused;
@@ -44,7 +45,7 @@ pub enum Fault {
 }
 
 /// What a refusal tells: its number, its layer and its place.
-#[derive(Clone, Copy, PartialEq, Eq, Debug)]
+#[derive(Clone, Copy)]
 pub struct Refusal {
     pub number: u8,
     pub layer: u8,
@@ -100,6 +101,8 @@ pub impl<T: Drop> From<Refused<T>> for Fault as FaultFromRefused {
 
 /// A refusal as the console prints it; want of memory is told as an error.
 pub impl fmt::Display for Fault as FaultDisplay {
+    ghost shown = { λ f. Some (shownRefusal (refusalOf f)) };
+
     fn fmt<W: fmt::Write>(&self, f: &mut fmt::Formatter<W>) -> fmt::Result {
         match self.refusal() {
             Some(

@@ -3,7 +3,7 @@ ghost use mathlib.Core.Path.{_≡_};
 ghost use Rattle.std.specs.shelf.Text.{sameBytes};
 ghost use Rattle.lexer.specs.Keywords.{spell, firstSpelled, keywordOf};
 
-#[derive(Clone, Copy, PartialEq, Eq, Debug)]
+#[derive(Clone, Copy)]
 pub enum Keyword {
     Model,
     EndModel,
@@ -120,7 +120,8 @@ const KEYWORDS: [Keyword; 34] = [
     Keyword::False,
 ];
 
-fn same(a: &[u8], b: &[u8]) -> bool
+/// Whether two texts have the same bytes.
+pub fn same(a: &[u8], b: &[u8]) -> bool
     ensures { λ r. ⌜ r ≡ sameBytes (now (a .entry)) (now (b .entry)) ⌝ }
 {
     a == b
@@ -139,7 +140,7 @@ fn first_spelled(word: &[u8], keywords: &[Keyword]) -> Option<Keyword>
 }
 
 /// The keyword that a word is, if it is one.
-pub fn keyword_of(word: &[u8]) -> Option<Keyword>
+pub(crate) fn keyword_of(word: &[u8]) -> Option<Keyword>
     ensures { λ r. ⌜ r ≡ keywordOf (now (word .entry)) ⌝ }
 {
     first_spelled(word, &KEYWORDS)

@@ -21,7 +21,7 @@ fn read_digits(digits: &[u8]) -> Option<u32>
 }
 
 /// The number that a run of digits is, if it is one: it has no leading zero.
-pub fn read_number(digits: &[u8]) -> Option<u32>
+pub(crate) fn read_number(digits: &[u8]) -> Option<u32>
     ensures { λ r. ⌜ r ≡ numberOf (now (digits .entry)) ⌝ }
 {
     if digits.len() > 1 && digits[0] == b'0' {

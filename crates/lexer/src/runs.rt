@@ -8,7 +8,7 @@ use classes::class_of;
 
 /// What a run is made of.
 #[derive(Clone, Copy)]
-pub enum Run {
+pub(crate) enum Run {
     Blanks,
     Word,
     Digits,
@@ -27,7 +27,7 @@ fn goes_on(run: Run, class: Class) -> bool
 }
 
 /// How many bytes at the front the longest run takes.
-pub fn reach(run: Run, bytes: &[u8]) -> usize
+pub(crate) fn reach(run: Run, bytes: &[u8]) -> usize
     ensures within { λ r. ⌜ r ≤ length (now (bytes .entry)) ⌝ }
     ensures value { λ r. ⌜ r ≡ reachOf run (now (bytes .entry)) ⌝ }
 {

@@ -2,7 +2,7 @@
 ghost use mathlib.Core.Path.{_≡_};
 ghost use Rattle.lexer.specs.Signs.{signOf, twinOf};
 
-#[derive(Clone, Copy, PartialEq, Eq, Debug)]
+#[derive(Clone, Copy)]
 pub enum Sign {
     Not,
     Open,
@@ -22,7 +22,7 @@ pub enum Sign {
 }
 
 /// The sign that a byte of the class of signs stands for.
-pub fn sign_of(byte: u8) -> Sign
+pub(crate) fn sign_of(byte: u8) -> Sign
     ensures { λ r. ⌜ r ≡ signOf byte ⌝ }
 {
     match byte {
@@ -43,7 +43,7 @@ pub fn sign_of(byte: u8) -> Sign
 }
 
 /// The sign that a byte of the class of twins stands for, twice over.
-pub fn twin_of(byte: u8) -> Sign
+pub(crate) fn twin_of(byte: u8) -> Sign
     ensures { λ r. ⌜ r ≡ twinOf byte ⌝ }
 {
     if byte == b'&' { Sign::And } else { Sign::Or }
