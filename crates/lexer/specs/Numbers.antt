@@ -21,5 +21,5 @@ abbrev pub inRange : ℕ → Option ℕ
 inRange n = cond (leb n 1000000000) (Some n) None
 
 -- The number that a run of digits is, if it is one: it has no leading zero and is in range.
-unfoldable pub numberOf : List ℕ → Option ℕ
+abbrev pub numberOf : List ℕ → Option ℕ
 numberOf digits = cond (ltb 1 (length digits) && eqb (getD digits 0 0) 48) None (inRange (valueOf digits))
