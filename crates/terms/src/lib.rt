@@ -1,0 +1,4 @@
+//! Reads expressions and conditions, and refuses them at the first token at which none could go on.
+pub mod pull;
+mod shapes;
+pub mod terms;
