@@ -1,0 +1,2 @@
+pub mod clauses;
+pub mod tables;
