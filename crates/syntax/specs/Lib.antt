@@ -1,3 +1,4 @@
 pub mod Repeats
 pub mod Clauses
 pub mod Tables
+pub mod Statements

@@ -1,2 +1,3 @@
-pub mod clauses;
-pub mod tables;
+mod clauses;
+mod statements;
+mod tables;
