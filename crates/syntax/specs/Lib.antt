@@ -2,3 +2,4 @@ pub mod Repeats
 pub mod Clauses
 pub mod Tables
 pub mod Statements
+pub mod Whole
