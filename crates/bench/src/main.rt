@@ -5,16 +5,16 @@ use faults::Fault;
 use faults::FaultDisplay;
 use faults::FaultPartialEq;
 use input::Input;
-use lexer::tokens::tokens;
 use std::error::AnyError;
+use syntax::whole::check_form;
 
 mod input;
 
 /// Answers `model`; says whether the answer is an error.
 fn answer_model(rt: &LibcRuntime, text: &[u8]) -> Result<bool, AnyError> {
-    match tokens(rt.alloc(), text) {
-        Ok(found) => {
-            println!(rt, "model tokens {}", found.len())?;
+    match check_form(text) {
+        Ok(()) => {
+            println!(rt, "model form ok")?;
             Ok(false)
         }
         Err(fault) => {

@@ -80,7 +80,13 @@ fn last_end(text: &[u8], keyword: Keyword, at: usize) -> Result<usize, Fault>
 }
 
 /// A word and the block behind it.
-fn read_part(text: &[u8], keyword: Keyword, at: usize, depth: usize, room: usize) -> Result<(usize, usize), Fault>
+fn read_part(
+    text: &[u8],
+    keyword: Keyword,
+    at: usize,
+    depth: usize,
+    room: usize,
+) -> Result<(usize, usize), Fault>
     ensures value { λ r. ⌜ r ≡ partAt (now (text .entry)) (blockAt (now (text .entry)) depth) keyword (at, room) ⌝ }
     ensures falls { λ r. ⌜ made r (λ s. s .1 ≤ room) ⌝ }
 {
@@ -112,7 +118,14 @@ fn read_loop(text: &[u8], at: usize, depth: usize, room: usize) -> Result<(usize
 }
 
 /// A statement that holds blocks, whose first token stands at `place`, where so many more levels are allowed.
-fn read_holder(text: &[u8], holder: Holder, place: usize, at: usize, depth: usize, room: usize) -> Result<(usize, usize), Fault>
+fn read_holder(
+    text: &[u8],
+    holder: Holder,
+    place: usize,
+    at: usize,
+    depth: usize,
+    room: usize,
+) -> Result<(usize, usize), Fault>
     ensures value { λ r. ⌜ r ≡ holding (now (text .entry)) depth holder place at room ⌝ }
     ensures falls { λ r. ⌜ made r (λ s. s .1 ≤ room) ⌝ }
 {
@@ -126,7 +139,12 @@ fn read_holder(text: &[u8], holder: Holder, place: usize, at: usize, depth: usiz
 }
 
 /// One statement more, if one comes: the place behind it, and how many more are allowed.
-fn next_statement(text: &[u8], at: usize, depth: usize, room: usize) -> Result<Option<(usize, usize)>, Fault>
+fn next_statement(
+    text: &[u8],
+    at: usize,
+    depth: usize,
+    room: usize,
+) -> Result<Option<(usize, usize)>, Fault>
     ensures value { λ r. ⌜ r ≡ statementBy (now (text .entry)) (holding (now (text .entry)) depth) (at, room) ⌝ }
     ensures falls { λ r. ⌜ made r (λ o. BySome o (Unit {0}) (λ s. s .1 < room)) ⌝ }
 {
@@ -145,7 +163,12 @@ fn next_statement(text: &[u8], at: usize, depth: usize, room: usize) -> Result<O
 }
 
 /// Statements one after another, up to a token that begins none.
-pub(crate) fn read_block(text: &[u8], at: usize, depth: usize, room: usize) -> Result<(usize, usize), Fault>
+pub(crate) fn read_block(
+    text: &[u8],
+    at: usize,
+    depth: usize,
+    room: usize,
+) -> Result<(usize, usize), Fault>
     ensures value { λ r. ⌜ r ≡ blockAt (now (text .entry)) depth at room ⌝ }
     ensures falls { λ r. ⌜ made r (λ s. s .1 ≤ room) ⌝ }
 {

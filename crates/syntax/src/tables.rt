@@ -65,13 +65,20 @@ fn reference(text: &[u8], rules: Rules, foreign: Pulled) -> Result<Rules, Fault>
     ensures falls { λ r. ⌜ made r (λ s. s .references + s .checks < rules .references + rules .checks) ⌝ }
 {
     if rules.references == 0 {
-        return Err(Fault::LimitPassed { place: foreign.place });
+        return Err(Fault::LimitPassed {
+            place: foreign.place,
+        });
     }
     let at = expect_keyword(text, Keyword::Key, foreign.end)?;
     let at = argument_end(text, at)?;
     let at = expect_keyword(text, Keyword::References, at)?;
     let end = expect_name(text, at)?;
-    Ok(Rules { end, references: rules.references - 1, checks: rules.checks, checked: false })
+    Ok(Rules {
+        end,
+        references: rules.references - 1,
+        checks: rules.checks,
+        checked: false,
+    })
 }
 
 /// The place behind `<`, `=` or `>`.
@@ -102,11 +109,18 @@ fn check(text: &[u8], rules: Rules, attribute: Pulled) -> Result<Rules, Fault>
     ensures falls { λ r. ⌜ made r (λ s. s .references + s .checks < rules .references + rules .checks) ⌝ }
 {
     if rules.checks == 0 {
-        return Err(Fault::LimitPassed { place: attribute.place });
+        return Err(Fault::LimitPassed {
+            place: attribute.place,
+        });
     }
     let at = order_end(text, attribute.end)?;
     let end = number_end(text, at)?;
-    Ok(Rules { end, references: rules.references, checks: rules.checks - 1, checked: true })
+    Ok(Rules {
+        end,
+        references: rules.references,
+        checks: rules.checks - 1,
+        checked: true,
+    })
 }
 
 /// One reference or check more, if a comma comes. References stand before checks.
@@ -150,10 +164,23 @@ fn table(text: &[u8], at: usize, references: usize, checks: usize) -> Result<Rul
     let at = expect_keyword(text, Keyword::Primary, at)?;
     let at = expect_keyword(text, Keyword::Key, at)?;
     let end = argument_end(text, at)?;
-    let rules = rules_end(text, Rules { end, references, checks, checked: false })?;
+    let rules = rules_end(
+        text,
+        Rules {
+            end,
+            references,
+            checks,
+            checked: false,
+        },
+    )?;
     let at = expect_sign(text, Sign::Close, rules.end)?;
     let end = expect_sign(text, Sign::Semicolon, at)?;
-    Ok(Rules { end, references: rules.references, checks: rules.checks, checked: false })
+    Ok(Rules {
+        end,
+        references: rules.references,
+        checks: rules.checks,
+        checked: false,
+    })
 }
 
 /// How far the schema is read: the place behind it, and how many tables, references and checks may still come.
@@ -178,14 +205,24 @@ fn next_table(text: &[u8], schema: Schema) -> Result<Option<Schema>, Fault>
         return Err(Fault::LimitPassed { place: p.place });
     }
     let rules = table(text, p.end, schema.references, schema.checks)?;
-    Ok(Some(Schema { end: rules.end, tables: schema.tables - 1, references: rules.references, checks: rules.checks }))
+    Ok(Some(Schema {
+        end: rules.end,
+        tables: schema.tables - 1,
+        references: rules.references,
+        checks: rules.checks,
+    }))
 }
 
 /// The place behind all tables: at most 8, with at most 16 references and 16 checks.
 pub(crate) fn tables_end(text: &[u8], at: usize) -> Result<usize, Fault>
     ensures { λ r. ⌜ r ≡ tablesAt (now (text .entry)) at ⌝ }
 {
-    let mut schema = Schema { end: at, tables: 8, references: 16, checks: 16 };
+    let mut schema = Schema {
+        end: at,
+        tables: 8,
+        references: 16,
+        checks: 16,
+    };
     while let Some(next) = next_table(text, schema)? {
         schema = next;
     }

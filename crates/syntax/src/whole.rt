@@ -16,7 +16,9 @@ fn expect_end(text: &[u8], at: usize) -> Result<(), Fault>
 {
     match next_token(text, at)? {
         None => Ok(()),
-        Some((token, _)) => Err(Fault::NotAllowed { place: token.part().place }),
+        Some((token, _)) => Err(Fault::NotAllowed {
+            place: token.part().place,
+        }),
     }
 }
 

@@ -15,9 +15,9 @@ returns-in-Break-next c =
     let one = elementBehind (c .args .text .now) (c .args .element) in
     let p = err-from-errBy (c .from-residual-in-Break-next .result) (c .from-residual-in-Break-next .ensures .1) in
     rw (p .1, p .2) (
-      sym (repeated-refused one _ _ _ (omega arith) (sym (c .in-Break-next .ensures tt)))
-      ∙ c .loop-turn .inv
-      ∙ ap (λ r. andThen r (repeated one (length (c .args .text .now)))) (c .in-Continue-end .ensures tt))
+    sym (repeated-refused one _ _ _ (omega arith) (sym (c .in-Break-next .ensures tt)))
+    ∙ c .loop-turn .inv
+    ∙ ap (λ r. andThen r (repeated one (length (c .args .text .now)))) (c .in-Continue-end .ensures tt))
 
 pub returns-in-rest : need.returns-in-rest
 returns-in-rest c =
