@@ -28,8 +28,8 @@ leads-first : (tables : ℕ) (links : List Link) (a b : ℕ) → Step tables lin
 leads-first tables links a b s = (s .0, [], (s .1, s .2, s .3))
 
 -- The start is taken up first.
-pub visited-start : (tables : ℕ) (links : List Link) (start n : ℕ) (reached : List Bool) → start < length (replicate n false) → Marked tables links start (replicate n false) reached → Visited tables links start reached (set (replicate n false) start true)
-visited-start tables links start n reached fits m =
+pub visited-start : (tables : ℕ) (links : List Link) (start n : ℕ) (reached taken : List Bool) → start < length (replicate n false) → Marked tables links start (replicate n false) reached → taken ≡ set (replicate n false) start true → Visited tables links start reached taken
+visited-start tables links start n reached taken fits m takes = rw takes (
     record {
       sound = λ t h. ⊎-elim (λ old. absurd (none-marked n t old)) (λ s. leads-first tables links start t s) (m .only t h);
       followed = λ t u h s. ⊎-elim
@@ -37,11 +37,11 @@ visited-start tables links start n reached fits m =
           (λ e. m .more u (subst (λ x. Step tables links x u) (sym e) s))
           (has-parts (replicate n false) start t h);
       begun = has-new (replicate n false) start fits;
-    }
+    })
 
 -- A table that waits is taken up.
-pub visited-more : (tables : ℕ) (links : List Link) (start : ℕ) (reached taken : List Bool) (t : ℕ) (after : List Bool) → t < length taken → Visited tables links start reached taken → Has reached t → Marked tables links t reached after → Visited tables links start after (set taken t true)
-visited-more tables links start reached taken t after fits v has m =
+pub visited-more : (tables : ℕ) (links : List Link) (start : ℕ) (reached taken : List Bool) (t : ℕ) (after next : List Bool) → t < length taken → Visited tables links start reached taken → Has reached t → Marked tables links t reached after → next ≡ set taken t true → Visited tables links start after next
+visited-more tables links start reached taken t after next fits v has m takes = rw takes (
     record {
       sound = λ u h. ⊎-elim (λ old. v .sound u old) (λ s. leads-on tables links start t u (v .sound t has) s) (m .only u h);
       followed = λ x u h s. ⊎-elim
@@ -49,7 +49,7 @@ visited-more tables links start reached taken t after fits v has m =
           (λ e. m .more u (subst (λ y. Step tables links y u) (sym e) s))
           (has-parts taken t x h);
       begun = has-kept taken t start fits (v .begun);
-    }
+    })
 
 -- No way leaves what is reached.
 stays : (tables : ℕ) (links : List Link) (start : ℕ) (reached taken : List Bool) → Visited tables links start reached taken → ((t : ℕ) → Has reached t → Has taken t) → (a : ℕ) (ls : List Link) (b : ℕ) → Has reached a → Way tables links a ls b → Has reached b

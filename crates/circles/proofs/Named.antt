@@ -9,7 +9,7 @@ use Rattle.std.specs.declared.option.Option.the-variants.{Some, None}
 use Rattle.std.proofs.shelf.Tests.{cases-order}
 use Rattle.circles.specs.declared.Link.{Link}
 use Rattle.circles.specs.Ways.{IsTable}
-use Rattle.circles.specs.Circles.{OnCircle, First, Answers}
+use Rattle.circles.specs.Circles.{OnCircle, NoCircle, First, Answers}
 
 -- What is on a circle is a table.
 pub circle-table : (tables : ℕ) (links : List Link) (t : ℕ) → OnCircle tables links t → IsTable tables t
@@ -27,3 +27,8 @@ first-named tables links (Some u) a t f =
 -- The table that is named is itself on a circle.
 pub named-on : (tables : ℕ) (links : List Link) (r : Option ℕ) → Answers tables links r → (t : ℕ) → r ≡ Some t → OnCircle tables links t
 named-on tables links r a t e = let told : Answers tables links (Some t) = subst (λ o. Answers tables links o) e a in told .0
+
+-- Where no table is on a circle, none is named.
+pub none-named : (tables : ℕ) (links : List Link) (r : Option ℕ) → Answers tables links r → NoCircle tables links → r ≡ None
+none-named tables links None a free = refl
+none-named tables links (Some t) a free = absurd (free t (a .0))

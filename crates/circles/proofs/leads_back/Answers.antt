@@ -1,4 +1,4 @@
-use mathlib.Core.Path.{_≡_, refl}
+use mathlib.Core.Path.{_≡_, refl, ap}
 use mathlib.Core.Bool.{Bool, true, false}
 use Prim.Native.Nat.{_<_}
 use native.Mathlib.Omega.{arith}
@@ -17,21 +17,26 @@ decided P false to from = λ p. false≢true (from p)
 
 pub loop-table-holds : need.loop-table-holds
 loop-table-holds c =
-    (visited-start (c .args .tables) (c .args .links .now) (c .args .start) 9 (c .take-up .last .reached) (omega arith) (c .take-up .ensures), c .take-up .array-long, length-set (replicate 9 false) (c .args .start) true)
+    let took = c .take-up .ensures in (
+      visited-start (c .args .tables) (c .args .links .now) (c .args .start) 9 (c .take-up .last .reached) (c .take-up .last .taken) (omega arith) (took .marks) (took .takes),
+      c .typed .reached,
+      c .typed .taken,
+    )
 
 pub loop-table-less : need.loop-table-less
 loop-table-less c =
     let waits = c .in-Some .ensures tt in
     let fits : c .in-Some .table < length (c .loop-table .taken) = omega (arith, waits .0, c .loop-table .inv .2) in
-    omega (arith, free-set (c .loop-table .taken) (c .in-Some .table) fits (waits .2))
+    omega (arith, free-set (c .loop-table .taken) (c .in-Some .table) fits (waits .2), ap free (c .take-up-in-Some .ensures .takes))
 
 pub loop-table-again : need.loop-table-again
 loop-table-again c =
     let waits = c .in-Some .ensures tt in
+    let took = c .take-up-in-Some .ensures in
     let fits : c .in-Some .table < length (c .loop-table .taken) = omega (arith, waits .0, c .loop-table .inv .2) in (
-      visited-more (c .args .tables) (c .args .links .now) (c .args .start) (c .loop-table .reached) (c .loop-table .taken) (c .in-Some .table) (c .take-up-in-Some .last .reached) fits (c .loop-table .inv .0) (waits .1) (c .take-up-in-Some .ensures),
-      c .take-up-in-Some .array-long,
-      simp length-set (c .loop-table .inv .2),
+      visited-more (c .args .tables) (c .args .links .now) (c .args .start) (c .loop-table .reached) (c .loop-table .taken) (c .in-Some .table) (c .take-up-in-Some .last .reached) (c .take-up-in-Some .last .taken) fits (c .loop-table .inv .0) (waits .1) (took .marks) (took .takes),
+      c .typed .reached,
+      c .typed .taken,
     )
 
 pub returns : need.returns

@@ -1,4 +1,4 @@
-use mathlib.Core.Path.{subst}
+use mathlib.Core.Path.{refl, subst}
 use mathlib.Core.Bool.{true}
 use Prim.Native.Nat.{_+_, _<_}
 use native.Mathlib.Omega.{arith}
@@ -31,7 +31,8 @@ loop-link-again c =
 
 pub returns : need.returns
 returns c =
-    subst
-    (λ ls. Marked (c .args .tables) ls (c .args .table) (c .args .reached .now) (c .loop-link .reached))
-    (take-all (c .loop-link .link-index) (c .args .links .now) (omega arith))
-    (c .loop-link .inv .0)
+    let all = take-all (c .loop-link .link-index) (c .args .links .now) (omega arith) in
+    record {
+      marks = subst (λ ls. Marked (c .args .tables) ls (c .args .table) (c .args .reached .now) (c .loop-link .reached)) all (c .loop-link .inv .0);
+      takes = refl;
+    }
