@@ -1,12 +1,12 @@
 -- Where no table waits any more, the marked tables are those that the start leads to.
-use mathlib.Core.Path.{_≡_, refl, sym, ap, subst, _∙_}
+use mathlib.Core.Path.{_≡_, refl, sym, subst}
 use mathlib.Core.Bool.{Bool, true, false}
-use mathlib.Core.Logic.{_⊎_, inl, inr, ⊎-elim}
+use mathlib.Core.Logic.{_⊎_, ⊎-elim}
 use mathlib.Core.List.{List, [], _∷_, _++_}
-use Prim.Native.Nat.{ℕ, _<_, _≤_}
-use lib.ListN.{length, getD, set, replicate}
+use Prim.Native.Nat.{ℕ, _<_}
+use lib.ListN.{length, set, replicate}
 use Rattle.circles.specs.declared.Link.{Link}
-use Rattle.circles.specs.Ways.{In, Follows, Way, Leads}
+use Rattle.circles.specs.Ways.{Follows, Way, Leads}
 use Rattle.circles.specs.Visits.{Has, Step, Marked}
 use Rattle.circles.proofs.Marks.{has-new, has-kept, has-parts, none-marked}
 

@@ -2,7 +2,7 @@ use mathlib.Core.Path.{_≡_, refl, ap}
 use mathlib.Core.Bool.{Bool, true, false}
 use Prim.Native.Nat.{_<_}
 use native.Mathlib.Omega.{arith}
-use lib.ListN.{length, getD, replicate, length-set}
+use lib.ListN.{length, getD}
 use Rattle.std.specs.Orderings.{When}
 use Rattle.std.proofs.shelf.Tests.{false≢true}
 use Rattle.circles.specs.Ways.{Leads}

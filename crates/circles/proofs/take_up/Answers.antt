@@ -1,8 +1,7 @@
 use mathlib.Core.Path.{refl, subst}
-use mathlib.Core.Bool.{true}
-use Prim.Native.Nat.{_+_, _<_}
+use Prim.Native.Nat.{_<_}
 use native.Mathlib.Omega.{arith}
-use lib.ListN.{length, getD, take, set}
+use lib.ListN.{length, getD, take}
 use Rattle.std.proofs.shelf.Lists.{take-more, take-all}
 use Rattle.circles.specs.declared.Link.{Link}
 use Rattle.circles.specs.Visits.{Marked}
