@@ -9,13 +9,14 @@ use lib.IntN.{ℤ}
 use lib.Dec.{leb, ltb, eqb}
 use lib.ListN.{length, getD}
 use Rattle.std.specs.Results.{isOk}
+use Rattle.std.specs.declared.option.Option.the-variants.{Some, None}
 use Rattle.std.specs.declared.result.Result.{Result}
 use Rattle.std.specs.declared.result.Result.the-variants.{Ok, Err}
 use Rattle.std.proofs.shelf.Tests.{cond-true, cond-false, and-from, and-right, and-parts, le-leb, leb-true, lt-ltb, le-ltb, ltb-false, eq-eqb, ne-eqb, cases-eq, lt-leb}
 use Rattle.faults.specs.declared.Fault.{Fault}
 use Rattle.faults.specs.declared.Fault.the-variants.{TooFew, BadLimit, KeyTaken, TableFull, NotThere}
 use Rattle.store.specs.declared.Entry.{Entry}
-use Rattle.store.specs.Meaning.{Meaning, isTable, isLimit, holds, rank, withEntry, without, updated, noEntry, unless14, isPosition, keyAt, rowAt, countOf, putAnswer, putAfter, takeAnswer, takeAfter, needed}
+use Rattle.store.specs.Meaning.{Meaning, isTable, isLimit, holds, rank, withEntry, without, updated, noEntry, unless14, isPosition, entryAt, keyAt, rowAt, countOf, putAnswer, putAfter, takeAnswer, takeAfter, needed}
 
 pub is-table : (t : ℕ) → 1 ≤ t → t ≤ 8 → isTable t ≡ true
 is-table t a b = and-from (leb 1 t) (leb t 8) (le-leb 1 t a) (le-leb t 8 b)
@@ -35,6 +36,12 @@ module _ (m : Meaning) (t : ℕ) (it : isTable t ≡ true) where
 
   pub no-position : (p : ℕ) → length (m .tables t) ≤ p → isPosition m t p ≡ false
   no-position p h = and-right (isTable t) _ (le-ltb _ _ h)
+
+  pub entry-done : (p : ℕ) (e : Entry) → p < length (m .tables t) → e ≡ getD (m .tables t) p noEntry → Some e ≡ entryAt m t p
+  entry-done p e h q = ap Some q ∙ sym (cond-true _ _ _ (is-position p h))
+
+  pub entry-absent : (p : ℕ) → length (m .tables t) ≤ p → None ≡ entryAt m t p
+  entry-absent p h = sym (cond-false _ _ _ (no-position p h))
 
   module _ (e : Entry) where
     left : {x : Fault} → Err x ≡ putAnswer m t (e .key) → m ≡ putAfter m t e

@@ -9,6 +9,8 @@ use lib.Dec.{leb, ltb, eqb}
 use lib.ListN.{length, getD}
 use Rattle.std.specs.Holes.{inserted, removed}
 use Rattle.std.specs.Results.{isOk}
+use Rattle.std.specs.declared.option.Option.{Option}
+use Rattle.std.specs.declared.option.Option.the-variants.{Some, None}
 use Rattle.std.specs.declared.result.Result.{Result}
 use Rattle.std.specs.declared.result.Result.the-variants.{Ok, Err}
 use Rattle.faults.specs.declared.Fault.{Fault}
@@ -79,6 +81,10 @@ countOf m t = unless14 (isTable t) (length (m .tables t)) t
 abbrev pub isPosition : Meaning → ℕ → ℕ → Bool
 isPosition m t p = isTable t && ltb p (length (m .tables t))
 
+-- The key and the row at a position, if there is a row.
+abbrev pub entryAt : Meaning → ℕ → ℕ → Option Entry
+entryAt m t p = cond (isPosition m t p) (Some (getD (m .tables t) p noEntry)) None
+
 -- The key at a position.
 abbrev pub keyAt : Meaning → ℕ → ℕ → Result ℤ Fault
 keyAt m t p = unless14 (isPosition m t p) (getD (m .tables t) p noEntry .key) t
@@ -110,6 +116,10 @@ pub record Lawful (m : Meaning) : Type 0 where
   pub ascends : (t : ℕ) → ascending (m .tables t) ≡ true
   pub within : (t : ℕ) → length (m .tables t) ≤ m .limit
   pub outside : (t : ℕ) → isTable t ≡ false → m .tables t ≡ []
+
+-- The meaning of a store that keeps, for each table t, the rows of t; other tables have none.
+abbrev pub storing : ℕ → (ℕ → List Entry) → Meaning
+storing R rows = record { limit = R; tables = λ t. cond (isTable t) (rows t) [] }
 
 -- ---- making a store
 

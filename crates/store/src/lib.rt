@@ -1,9 +1,11 @@
 //! What a store of rows means and answers: one trait, with its meaning as ghost tables and limit.
 ghost use mathlib.Core.Path.{_≡_};
 ghost use mathlib.Core.List.{List};
-ghost use Prim.Native.Nat.{ℕ, _+_, _<_, _≤_};
+ghost use Prim.Native.Nat.{ℕ, _+_, _*_, _<_, _≤_};
 ghost use lib.ListN.{length, getD};
-ghost use Rattle.store.specs.Meaning.{Meaning, Lawful, countOf, keyAt, rowAt, putAnswer, putAfter, takeAnswer, takeAfter, needed};
+ghost use Rattle.store.specs.Meaning.{Meaning, Lawful, countOf, keyAt, rowAt, putAnswer, putAfter, takeAnswer, takeAfter, needed, isLimit};
+ghost use Rattle.std.specs.Vec.{made};
+ghost use mathlib.Core.Bool.{true};
 use faults::Fault;
 
 /// How many values a row has.
@@ -55,9 +57,11 @@ pub trait Store {
         ensures after { λ _. ⌜ meaning (now (self .exit)) ≡ takeAfter (meaning (now (self .entry))) table key ⌝ };
 }
 
-/// How many records a store of the row limit `limit` needs, when it is lent `records` of them.
+/// How many records a store of the row limit `limit` needs, where `records` of them are at hand.
+/// It is asked before the memory is lent, so a refusal leaves that as it was.
 pub fn records_needed(limit: usize, records: usize) -> Result<usize, Fault>
-    ensures { λ r. ⌜ r ≡ needed limit records ⌝ }
+    ensures answer { λ r. ⌜ r ≡ needed limit records ⌝ }
+    ensures enough { λ r. ⌜ made r (λ n. (isLimit limit ≡ true) × (n ≡ 8 * limit) × (8 * limit ≤ records)) ⌝ }
 {
     if limit == 0 || limit > MOST_ROWS {
         return Err(Fault::BadLimit { rows: limit });
