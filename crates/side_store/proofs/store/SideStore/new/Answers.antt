@@ -6,7 +6,7 @@ use Rattle.store.proofs.Keeping.{storing-none}
 use Rattle.side_store.specs.Parts.{part}
 use Rattle.side_store.proofs.store.SideStore.new.Needs as need
 
-zeros : (n u : ℕ) → getD (replicate n 0) u 0 ≡ 0
+zeros : (n u : ℕ) → _≡_ {A = ℕ} (getD (replicate n 0) u 0) 0
 zeros zero u = refl
 zeros (suc n) zero = refl
 zeros (suc n) (suc u) = zeros n u
