@@ -125,9 +125,9 @@ impl Records<'_> {
         ensures here { λ _. ⌜ ((p : ℕ) → Before (nodesOf (now (self .entry) .heads) (now (now (self .entry) .cells)) table) node p → p < length (nodesOf (now (self .entry) .heads) (now (now (self .entry) .cells)) table) → rowsOf (now (self .exit) .heads) (now (now (self .exit) .cells)) table ≡ removed (rowsOf (now (self .entry) .heads) (now (now (self .entry) .cells)) table) p) ⌝ }
         ensures there { λ _. ⌜ ((t : ℕ) → 0 < t → t < 9 → (t ≡ table → ⊥) → rowsOf (now (self .exit) .heads) (now (now (self .exit) .cells)) t ≡ rowsOf (now (self .entry) .heads) (now (now (self .entry) .cells)) t) ⌝ }
     {
-        let mut heads = self.heads;
-        let entry = take_after(&mut heads, self.cells, table, node);
-        self.heads = heads;
+        let mut firsts = self.heads;
+        let entry = take_after(&mut firsts, self.cells, table, node);
+        self.heads = firsts;
         entry
     }
 }

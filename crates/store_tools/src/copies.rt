@@ -43,8 +43,8 @@ fn copy_table<A: Store, B: Store>(from: &A, to: &mut B, table: usize)
     ensures lawful { λ _. ⌜ Lawful (A·Store .meaning (now (from .entry))) ⌝ }
 {
     let rows = rows_of(from, table);
-    for i in 0..rows {
-        let entry = entry_of(from, table, i);
+    for position in 0..rows {
+        let entry = entry_of(from, table, position);
         let _ = to.put(table, entry.key, entry.row);
     }
 }

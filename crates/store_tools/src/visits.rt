@@ -31,8 +31,8 @@ pub fn visit_rows<S: Store, V: Visitor>(
     ensures visited { λ _. ⌜ Visited (V·Visitor .takes) (now (visitor .entry)) (S·Store .meaning (now (store .entry)) .tables table) (now (visitor .exit)) ⌝ }
 {
     let rows = store.count(table)?;
-    for i in 0..rows {
-        let entry = entry_of(store, table, i);
+    for position in 0..rows {
+        let entry = entry_of(store, table, position);
         visitor.visit(entry);
     }
     Ok(())

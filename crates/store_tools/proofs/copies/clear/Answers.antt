@@ -7,9 +7,6 @@ use Rattle.store.proofs.Calls.{is-table}
 use Rattle.store_tools.proofs.Tables.{up-none, up-more, up-all, up-outside}
 use Rattle.store_tools.proofs.copies.clear.Needs as need
 
-pub loop-table-holds : need.loop-table-holds
-loop-table-holds g c = (up-none (λ _. []) (g .S·Store .meaning (c .args .store .now)), λ h. absurd (omega arith))
-
 pub clear-table-requires : need.clear-table-requires
 clear-table-requires g c κs = is-table (c .loop-table .table) (c .loop-table .kept .table) (c .loop-table-test .taken)
 

@@ -24,9 +24,6 @@ entry-of-entry-requires g c κs =
       position = omega (arith, ap length l, length-drop (c .loop-i .i) (g .S·Store .meaning (c .args .store .now) .tables (c .args .table)), c .rows-of-rows .ensures .count);
     }
 
-pub loop-i-holds : need.loop-i-holds
-loop-i-holds g c = updated-same (g .S·Store .meaning (c .args .store .now)) (c .args .table) _ refl
-
 pub loop-i-again : need.loop-i-again
 loop-i-again g c =
     let f : SFits w32 (c .entry-of-entry .result .key) = search needs in

@@ -7,9 +7,6 @@ use Rattle.store.proofs.Calls.{is-table}
 use Rattle.store_tools.proofs.Tables.{upTo, up-none, up-more, up-all, up-here}
 use Rattle.store_tools.proofs.copies.copy_tables.Needs as need
 
-pub loop-table-holds : need.loop-table-holds
-loop-table-holds g c = (up-none (g .A·Store .meaning (c .args .from .now) .tables) (g .B·Store .meaning (c .args .to .now)), λ h. absurd (omega arith))
-
 pub copy-table-requires : need.copy-table-requires
 copy-table-requires g c κs = record {
   table = is-table (c .loop-table .table) (c .loop-table .kept .table) (c .loop-table-test .taken);
