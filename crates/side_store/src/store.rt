@@ -4,7 +4,7 @@ ghost use mathlib.Core.Bool.{true};
 ghost use Prim.Native.Nat.{ℕ, _+_, _-_, _*_, _<_, _≤_};
 ghost use denote.Ref.{now};
 ghost use lib.ListN.{length, getD, take};
-ghost use Rattle.store.specs.Meaning.{Meaning, isLimit, entryAt, sought, ascending, emptyOf};
+ghost use Rattle.store.specs.Meaning.{Meaning, Lawful, isLimit, entryAt, sought, ascending, emptyOf};
 ghost use Rattle.side_store.specs.Parts.{meant, part};
 use super::slots::Slots;
 use super::slots::seek;
@@ -53,6 +53,16 @@ impl SideStore<'_> {
         (table - 1) * self.limit
     }
 
+    /// How many rows table `table` has.
+    fn rows(&self, table: usize) -> usize
+        requires from { ⌜ 1 ≤ table ⌝ }
+        requires to { ⌜ table ≤ 8 ⌝ }
+        ensures count { λ r. ⌜ r ≡ length (part (now (self .entry) .limit) (now (self .entry) .raw .counts) (now (now (self .entry) .raw .slots)) (table - 1)) ⌝ }
+        ensures lawful { λ _. ⌜ Lawful (meant (now (self .entry) .limit) (now (self .entry) .raw .counts) (now (now (self .entry) .raw .slots))) ⌝ }
+    {
+        self.raw.counts[table - 1]
+    }
+
     /// The entry at `position` of table `table`, if it is there.
     fn entry_at(&self, table: usize, position: usize) -> Option<Entry>
         ensures { λ r. ⌜ r ≡ entryAt (meant (now (self .entry) .limit) (now (self .entry) .raw .counts) (now (now (self .entry) .raw .slots))) table position ⌝ }
@@ -92,7 +102,7 @@ pub impl Store for SideStore<'_> as SideStoreCalls {
         if table == 0 || table > TABLES {
             return Err(Fault::NotThere { table });
         }
-        Ok(self.raw.counts[table - 1])
+        Ok(self.rows(table))
     }
 
     fn key_at(&self, table: usize, position: usize) -> Result<i32, Fault> {
@@ -116,7 +126,7 @@ pub impl Store for SideStore<'_> as SideStoreCalls {
         match self.find(table, key) {
             Ok(_) => Err(Fault::KeyTaken { table }),
             Err(at) => {
-                if self.raw.counts[table - 1] >= self.limit {
+                if self.rows(table) >= self.limit {
                     return Err(Fault::TableFull { table });
                 }
                 let base = self.base(table);
