@@ -6,13 +6,13 @@ use Prim.Native.Nat.{ℕ, zero, suc, _+_, _-_, _≤_, _<_, zero-le}
 use native.Mathlib.Omega.{arith}
 use lib.ListN.{length, getD, set, take, drop}
 use Rattle.std.specs.Holes.{inserted, removed}
-use Rattle.std.proofs.shelf.Lists.{length-map, map-append, take-map, drop-map, getD-set-same, getD-set-other, length-set, getD-past}
+use Rattle.std.proofs.shelf.Lists.{length-map, map-append, take-map, drop-map, getD-set-same, getD-set-other, getD-past}
 use Rattle.std.proofs.shelf.Edits.{length-inserted, length-removed}
-use Rattle.std.proofs.shelf.Tests.{cases-lt, cases-eq}
+use Rattle.std.proofs.shelf.Tests.{cases-lt}
 use Rattle.chain.specs.declared.cells.Cell.{Cell}
 use Rattle.chain.specs.Lists.{slotOf, prior, nodes, relinked, pointers, Sound, nodesOf, elements, free, Before}
 use Rattle.chain.proofs.Slots.{length-pointers}
-use Rattle.chain.proofs.Links.{Strung, shifted, slot-node, nodes-are, strung-shifted, shifted-a, shifted-b, shifted-else, distinct, onward, sum-same, sum-term}
+use Rattle.chain.proofs.Links.{Strung, shifted, slot-node, nodes-are, strung-shifted, shifted-a, shifted-b, shifted-else, onward, sum-same, sum-term}
 
 -- the lists are those that a walk gives
 pub canonical : (n : ℕ) (ps : List ℕ) (L : ℕ → List ℕ) → Strung n ps L → Strung n ps (nodes n ps)

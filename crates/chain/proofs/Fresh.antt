@@ -1,14 +1,10 @@
 -- Chains at the start: every node is free.
-use mathlib.Core.Path.{_≡_, refl, sym, ap, subst, _∙_}
-use mathlib.Core.List.{List, [], _∷_, _++_, map}
-use mathlib.Core.Logic.{⊎-elim}
-use mathlib.Core.Bool.{cond}
-use Prim.Native.Nat.{ℕ, zero, suc, _+_, _-_, _≤_, _<_, zero-le}
+use mathlib.Core.Path.{_≡_, refl, ap, _∙_}
+use mathlib.Core.List.{List, [], _++_}
+use Prim.Native.Nat.{ℕ, zero, suc, _+_, _-_, _≤_, _<_}
 use native.Mathlib.Omega.{arith}
-use lib.Dec.{eqb}
 use lib.ListN.{length, getD}
-use Rattle.std.proofs.shelf.Lists.{getD-append-left, getD-append-right, length-append, getD-past}
-use Rattle.std.proofs.shelf.Tests.{cases-eq, cases-lt, cond-true, cond-false, eq-eqb, ne-eqb}
+use Rattle.std.proofs.shelf.Lists.{getD-append-left, getD-append-right, length-append}
 use Rattle.chain.specs.Lists.{slotOf, prior, nodes, sumTo, nodesFrom, upTo}
 use Rattle.chain.proofs.Links.{Strung, slot-node, nodes-are}
 use Rattle.chain.proofs.Elements.{canonical}

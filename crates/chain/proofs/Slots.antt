@@ -1,12 +1,12 @@
 -- The pointers of heads and cells, read and written.
-use mathlib.Core.Path.{_≡_, refl, sym, ap, subst, _∙_}
-use mathlib.Core.List.{List, [], _∷_, _++_, map}
-use Prim.Native.Nat.{ℕ, zero, suc, _+_, _-_, _≤_, _<_}
+use mathlib.Core.Path.{_≡_, refl, sym, ap, _∙_}
+use mathlib.Core.List.{List, _++_, map}
+use Prim.Native.Nat.{ℕ, _+_, _-_, _<_}
 use native.Mathlib.Omega.{arith}
 use lib.ListN.{length, getD, set}
-use Rattle.std.proofs.shelf.Lists.{getD-map, map-set, set-getD, getD-append-left, getD-append-right, set-append-left, set-append-right, length-append, length-map, length-set}
+use Rattle.std.proofs.shelf.Lists.{getD-map, map-set, set-getD, getD-append-left, getD-append-right, set-append-left, set-append-right, length-append, length-map}
 use Rattle.chain.specs.declared.cells.Cell.{Cell}
-use Rattle.chain.specs.Lists.{slotOf, pointers, relinked}
+use Rattle.chain.specs.Lists.{slotOf, pointers}
 use Rattle.chain.proofs.Links.{slot-node}
 
 module _ {X : Type 0} (cells : List (Cell X)) where

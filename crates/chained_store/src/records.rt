@@ -1,7 +1,7 @@
 //! The lent memory of a store with chained records, and the changes made there.
 ghost use mathlib.Core.Path.{_≡_};
 ghost use mathlib.Core.List.{[]};
-ghost use Prim.Native.Nat.{ℕ, _+_, _<_, _≤_};
+ghost use Prim.Native.Nat.{ℕ, _<_, _≤_};
 ghost use lib.ListN.{length, getD, take, drop};
 ghost use Rattle.std.specs.Holes.{inserted, removed};
 ghost use Rattle.std.specs.Options.{Cases as BySome};

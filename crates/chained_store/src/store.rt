@@ -1,11 +1,11 @@
 //! The store with chained records.
 ghost use mathlib.Core.Path.{_≡_};
 ghost use mathlib.Core.Bool.{true};
-ghost use Prim.Native.Nat.{ℕ, _+_, _*_, _<_, _≤_};
+ghost use Prim.Native.Nat.{ℕ, _*_, _<_, _≤_};
 ghost use denote.Ref.{now};
-ghost use lib.ListN.{length, getD};
+ghost use lib.ListN.{length};
 ghost use Rattle.chain.specs.Lists.{pointers, Leads, Inside, Apart, Total};
-ghost use Rattle.store.specs.Meaning.{Meaning, isLimit, entryAt, ascending, emptyOf};
+ghost use Rattle.store.specs.Meaning.{isLimit, entryAt, ascending, emptyOf};
 ghost use Rattle.chained_store.specs.Tables.{meant, rowsOf};
 use super::records::Records;
 use super::records::free_records;

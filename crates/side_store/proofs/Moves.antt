@@ -1,14 +1,14 @@
 -- The steps of a shift by one place.
-use mathlib.Core.Path.{_≡_, refl, sym, ap, _∙_}
-use mathlib.Core.List.{List, [], _∷_, _++_}
+use mathlib.Core.Path.{_≡_, sym, ap, _∙_}
+use mathlib.Core.List.{List, _∷_, _++_}
 use Prim.Native.Nat.{ℕ, suc, _+_, _-_, _≤_, _<_}
 use native.Mathlib.Omega.{arith}
 use borrow.Author.Needs.{needs}
 use lib.ListN.{length, take, drop, getD, set}
-use Rattle.std.proofs.shelf.Lists.{places, same-lists, getD-set-same, getD-set-other, length-set, length-take, getD-take, getD-drop}
+use Rattle.std.proofs.shelf.Lists.{places, same-lists, getD-set-same, length-take, getD-take, getD-drop}
 use Rattle.std.proofs.shelf.Edits.{getD-removed-above}
 use Rattle.std.proofs.shelf.Tests.{cases-eq, cases-lt}
-use mathlib.Core.Logic.{_⊎_, inl, inr, ⊎-elim}
+use mathlib.Core.Logic.{_⊎_, ⊎-elim}
 use Rattle.side_store.specs.Shifts.{opened, closed}
 
 -- xs with what stood from i up to `to` one place on

@@ -1,8 +1,8 @@
 //! The lent memory of a store with rows side by side, and the changes made there.
 ghost use mathlib.Core.Path.{_≡_};
-ghost use Prim.Native.Nat.{ℕ, _+_, _-_, _<_, _≤_};
+ghost use Prim.Native.Nat.{_+_, _-_, _<_, _≤_};
 ghost use lib.ListN.{length, getD, set};
-ghost use Rattle.store.specs.Meaning.{sought, noEntry};
+ghost use Rattle.store.specs.Meaning.{sought};
 ghost use Rattle.side_store.specs.Shifts.{opened, closed};
 use super::shifts::close;
 use super::shifts::open;

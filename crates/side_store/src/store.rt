@@ -4,7 +4,7 @@ ghost use mathlib.Core.Bool.{true};
 ghost use Prim.Native.Nat.{ℕ, _+_, _-_, _*_, _<_, _≤_};
 ghost use denote.Ref.{now};
 ghost use lib.ListN.{length, getD, take};
-ghost use Rattle.store.specs.Meaning.{Meaning, Lawful, isLimit, entryAt, sought, ascending, emptyOf};
+ghost use Rattle.store.specs.Meaning.{Lawful, isLimit, entryAt, sought, ascending, emptyOf};
 ghost use Rattle.side_store.specs.Parts.{meant, part};
 use super::slots::Slots;
 use super::slots::seek;

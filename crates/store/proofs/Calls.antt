@@ -1,22 +1,22 @@
 -- What each call answers, and what it leaves, case by case: for the proofs of a store, and of its callers.
-use mathlib.Core.Path.{_≡_, refl, sym, ap, subst, fun-ext, _∙_}
+use mathlib.Core.Path.{_≡_, refl, sym, ap, fun-ext, _∙_}
 use mathlib.Core.List.{List}
 use mathlib.Core.Logic.{⊎-elim}
-use mathlib.Core.Bool.{Bool, true, false, cond, _&&_}
-use Prim.Native.Nat.{ℕ, _*_, _≤_, _<_}
+use mathlib.Core.Bool.{Bool, true, false, cond}
+use Prim.Native.Nat.{ℕ, _≤_, _<_}
 use native.Mathlib.Omega.{arith}
 use lib.IntN.{ℤ}
-use lib.Dec.{leb, ltb, eqb}
+use lib.Dec.{leb, eqb}
 use lib.ListN.{length, getD}
 use Rattle.std.specs.Results.{isOk}
 use Rattle.std.specs.declared.option.Option.the-variants.{Some, None}
 use Rattle.std.specs.declared.result.Result.{Result}
 use Rattle.std.specs.declared.result.Result.the-variants.{Ok, Err}
-use Rattle.std.proofs.shelf.Tests.{cond-true, cond-false, and-from, and-right, and-parts, le-leb, leb-true, lt-ltb, le-ltb, ltb-false, eq-eqb, ne-eqb, cases-eq, lt-leb}
+use Rattle.std.proofs.shelf.Tests.{cond-true, cond-false, and-from, and-right, and-parts, le-leb, leb-true, lt-ltb, le-ltb, eq-eqb, ne-eqb, cases-eq}
 use Rattle.faults.specs.declared.Fault.{Fault}
-use Rattle.faults.specs.declared.Fault.the-variants.{TooFew, BadLimit, KeyTaken, TableFull, NotThere}
+use Rattle.faults.specs.declared.Fault.the-variants.{KeyTaken, TableFull, NotThere}
 use Rattle.store.specs.declared.Entry.{Entry}
-use Rattle.store.specs.Meaning.{Meaning, isTable, isLimit, holds, rank, withEntry, without, updated, noEntry, unless14, isPosition, entryAt, keyAt, rowAt, countOf, putAnswer, putAfter, takeAnswer, takeAfter, needed}
+use Rattle.store.specs.Meaning.{Meaning, isTable, isLimit, holds, rank, withEntry, without, updated, noEntry, unless14, isPosition, entryAt, keyAt, countOf, putAnswer, putAfter, takeAnswer, takeAfter}
 
 pub is-table : (t : ℕ) → 1 ≤ t → t ≤ 8 → isTable t ≡ true
 is-table t a b = and-from (leb 1 t) (leb t 8) (le-leb 1 t a) (le-leb t 8 b)
@@ -85,36 +85,8 @@ ok-from {X} b x y t =
     let P : Bool → Type 0 = λ v. _≡_ {A = Result X Fault} (Ok x) (unless14 v y t) → (v ≡ true) × (x ≡ y) in
     let f : P b = elim b as P [ true ↦ (λ e. (refl, cc)) | false ↦ (λ e. let z : _≡_ {A = ℕ} 0 1 = cc in absurd (omega arith)) ] in f
 
-err-from : {X : Type 0} (b : Bool) (f : Fault) (y : X) (t : ℕ) → _≡_ {A = Result X Fault} (Err f) (unless14 b y t) → (b ≡ false) × (f ≡ NotThere t)
-err-from {X} b f y t =
-    let P : Bool → Type 0 = λ v. _≡_ {A = Result X Fault} (Err f) (unless14 v y t) → (v ≡ false) × (f ≡ NotThere t) in
-    let g : P b = elim b as P [ true ↦ (λ e. let z : _≡_ {A = ℕ} 0 1 = cc in absurd (omega arith)) | false ↦ (λ e. (refl, cc)) ] in g
-
 pub count-from : (m : Meaning) (t n : ℕ) → Ok n ≡ countOf m t → (isTable t ≡ true) × (n ≡ length (m .tables t))
 count-from m t n e = ok-from (isTable t) n (length (m .tables t)) t e
 
-pub count-refused : (m : Meaning) (t : ℕ) (f : Fault) → Err f ≡ countOf m t → (isTable t ≡ false) × (f ≡ NotThere t)
-count-refused m t f e = err-from (isTable t) f (length (m .tables t)) t e
-
 pub key-from : (m : Meaning) (t p : ℕ) (k : ℤ) → Ok k ≡ keyAt m t p → k ≡ getD (m .tables t) p noEntry .key
 key-from m t p k e = ok-from (isPosition m t p) k _ t e .1
-
-pub row-from : (m : Meaning) (t p : ℕ) (r : List ℤ) → Ok r ≡ rowAt m t p → r ≡ getD (m .tables t) p noEntry .row
-row-from m t p r e = ok-from (isPosition m t p) r _ t e .1
-
--- a position below the count is never refused
-pub key-there : (m : Meaning) (t p : ℕ) (f : Fault) → isTable t ≡ true → p < length (m .tables t) → Err f ≡ keyAt m t p → ⊥
-key-there m t p f it h e = let z : _≡_ {A = ℕ} 0 1 = cc (err-from (isPosition m t p) f _ t e .0, is-position m t it p h) in omega arith
-
-pub row-there : (m : Meaning) (t p : ℕ) (f : Fault) → isTable t ≡ true → p < length (m .tables t) → Err f ≡ rowAt m t p → ⊥
-row-there m t p f it h e = let z : _≡_ {A = ℕ} 0 1 = cc (err-from (isPosition m t p) f _ t e .0, is-position m t it p h) in omega arith
-
--- what is needed, where it is there
-pub needed-from : (R records n : ℕ) → Ok n ≡ needed R records → (isLimit R ≡ true) × (n ≡ 8 * R) × (8 * R ≤ records)
-needed-from R records n e =
-    let P : Bool → Bool → Type 0 = λ b v. isLimit R ≡ b → ltb records (8 * R) ≡ v → Ok n ≡ cond b (cond v (Err (TooFew (8 * R))) (Ok (8 * R))) (Err (BadLimit R)) → (isLimit R ≡ true) × (n ≡ 8 * R) × (8 * R ≤ records) in
-    let f : (b v : Bool) → P b v = λ b v. elim b as (λ x. P x v) [
-      | true ↦ (elim v as (P true) [ true ↦ (λ _ _ q. let z : _≡_ {A = ℕ} 0 1 = cc in absurd (omega arith)) | false ↦ (λ p o q. (p, cc, ltb-false records (8 * R) o)) ])
-      | false ↦ (λ _ _ q. let z : _≡_ {A = ℕ} 0 1 = cc in absurd (omega arith))
-    ] in
-    f (isLimit R) (ltb records (8 * R)) refl refl e

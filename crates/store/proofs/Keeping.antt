@@ -3,7 +3,7 @@ use mathlib.Core.Path.{_≡_, refl, sym, ap, subst, fun-ext, _∙_}
 use mathlib.Core.List.{List, []}
 use mathlib.Core.Logic.{⊎-elim}
 use mathlib.Core.Bool.{Bool, true, false, cond}
-use Prim.Native.Nat.{ℕ, _+_, _≤_, _<_, zero-le}
+use Prim.Native.Nat.{ℕ, _≤_, _<_, zero-le}
 use native.Mathlib.Omega.{arith}
 use lib.IntN.{ℤ}
 use lib.ListN.{length, getD}
@@ -13,7 +13,7 @@ use Rattle.std.proofs.shelf.Edits.{length-inserted, length-removed}
 use Rattle.std.proofs.shelf.Tests.{cond-true, cond-false, cases-eq}
 use Rattle.faults.specs.declared.Fault.the-variants.{KeyTaken, TableFull, NotThere}
 use Rattle.store.specs.declared.Entry.{Entry}
-use Rattle.store.specs.Meaning.{Meaning, Lawful, isTable, isLimit, ascending, holds, rank, withEntry, without, updated, noEntry, storing, emptyOf, entryAt, countOf, putAnswer, putAfter, takeAnswer, takeAfter}
+use Rattle.store.specs.Meaning.{Lawful, isTable, isLimit, ascending, holds, rank, withEntry, without, updated, noEntry, storing, emptyOf, entryAt, countOf, putAnswer, putAfter, takeAnswer, takeAfter}
 use Rattle.store.proofs.Rows.{rank-le, rank-lt, ascending-with, ascending-without}
 use Rattle.store.proofs.Calls.{is-table, table-from, count-done, entry-done, entry-absent, put-taken, put-full, put-done, take-absent, take-done, updated-by}
 

@@ -1,20 +1,18 @@
 -- Rows in ascending order: where a key stands, and that `withEntry` and `without` keep the order.
-use mathlib.Core.Path.{_≡_, refl, sym, ap, subst, _∙_}
+use mathlib.Core.Path.{_≡_, refl, sym, ap, _∙_}
 use mathlib.Core.List.{List, [], _∷_, _++_}
-use mathlib.Core.Bool.{Bool, true, false, cond, not, _&&_}
+use mathlib.Core.Bool.{Bool, true, false, cond, not}
 use Prim.Native.Nat.{ℕ, zero, suc, _+_, _-_, _≤_, _<_, zero-le, suc-le-suc}
 use native.Mathlib.Omega.{arith}
 use lib.IntN.{ℤ}
 use lib.Signed.{ltZ, _<ℤ_, _≤ℤ_}
 use lib.ListN.{length, getD, take, drop}
 use Rattle.std.proofs.shelf.Signed.{ints}
-use Rattle.std.proofs.shelf.Lists.{at-drop-more, at-drop-all, drop-more, drop-all}
-use Rattle.std.specs.declared.result.Result.{Result}
+use Rattle.std.proofs.shelf.Lists.{drop-more, drop-all}
 use Rattle.std.specs.declared.result.Result.the-variants.{Ok, Err}
-use native.Mathlib.Nat.{add-zero}
 use Rattle.std.proofs.shelf.Tests.{and-parts, and-from}
 use Rattle.store.specs.declared.Entry.{Entry}
-use Rattle.store.specs.Meaning.{rank, holds, withEntry, without, noEntry, sought, above, ascending}
+use Rattle.store.specs.Meaning.{rank, holds, withEntry, without, sought, above, ascending}
 
 -- each key is above k
 abbrev pub Above : ℤ → List Entry → Type 0

@@ -1,8 +1,6 @@
 //! What a store of rows means and answers: one trait, with its meaning as ghost tables and limit.
 ghost use mathlib.Core.Path.{_≡_};
-ghost use mathlib.Core.List.{List};
-ghost use Prim.Native.Nat.{ℕ, _+_, _*_, _<_, _≤_};
-ghost use lib.ListN.{length, getD};
+ghost use Prim.Native.Nat.{_*_, _<_, _≤_};
 ghost use Rattle.store.specs.Meaning.{Meaning, Lawful, countOf, keyAt, rowAt, putAnswer, putAfter, takeAnswer, takeAfter, needed, isLimit};
 ghost use Rattle.std.specs.Vec.{made};
 ghost use mathlib.Core.Bool.{true};

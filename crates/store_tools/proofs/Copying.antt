@@ -1,5 +1,5 @@
 -- Rows put one after another into an empty table, and taken out one after another.
-use mathlib.Core.Path.{_≡_, refl, sym, ap, subst, fun-ext, _∙_}
+use mathlib.Core.Path.{_≡_, refl, sym, ap, fun-ext, _∙_}
 use mathlib.Core.List.{List, [], _∷_, _++_}
 use mathlib.Core.Bool.{Bool, true, false, cond}
 use Prim.Native.Nat.{ℕ, zero, suc, _+_, _≤_, _<_}
@@ -8,12 +8,11 @@ use lib.IntN.{ℤ}
 use lib.Signed.{_<ℤ_, _≤ℤ_}
 use lib.Dec.{eqb}
 use lib.ListN.{length, getD, take, drop}
-use Rattle.std.specs.declared.result.Result.the-variants.{Ok, Err}
 use Rattle.std.proofs.shelf.Lists.{take-more, take-take, drop-all, drop-more, length-take-le}
 use Rattle.std.proofs.shelf.Signed.{ints}
-use Rattle.std.proofs.shelf.Tests.{cond-true, cond-false, eq-eqb, eqb-true, cases-bool}
+use Rattle.std.proofs.shelf.Tests.{cond-true, eq-eqb}
 use Rattle.store.specs.declared.Entry.{Entry}
-use Rattle.store.specs.Meaning.{Meaning, isTable, rank, holds, withEntry, without, updated, noEntry, ascending, putAnswer, putAfter, takeAnswer, takeAfter}
+use Rattle.store.specs.Meaning.{Meaning, isTable, rank, holds, withEntry, without, updated, noEntry, ascending, putAfter, takeAfter}
 use Rattle.store.proofs.Rows.{Above, Ascends, ascends-from, rank-more, holds-more, rank-here, holds-here}
 use Rattle.store.proofs.Calls.{put-done, take-done}
 
@@ -26,12 +25,6 @@ updated-twice m t r s =
 
 pub updated-at : (m : Meaning) (t : ℕ) (r : List Entry) → updated m t r .tables t ≡ r
 updated-at m t r = cond-true (eqb t t) _ _ (eq-eqb t t refl)
-
-pub updated-same : (m : Meaning) (t : ℕ) (rows : List Entry) → m .tables t ≡ rows → m ≡ updated m t rows
-updated-same m t rows e =
-    let each : (u : ℕ) (b : Bool) → eqb u t ≡ b → m .tables u ≡ cond b rows (m .tables u) = λ u b. elim b as (λ v. eqb u t ≡ v → m .tables u ≡ cond v rows (m .tables u))
-    [ true ↦ (λ q. ap (m .tables) (eqb-true u t q) ∙ e) | false ↦ (λ _. refl) ] in
-    λ i. record { limit = m .limit; tables = fun-ext (λ u. each u (eqb u t) refl) i }
 
 -- ---- a row more
 

@@ -2,29 +2,19 @@
 use mathlib.Core.Path.{_≡_, refl, sym, ap, subst, fun-ext, _∙_}
 use mathlib.Core.List.{List, [], _∷_, _++_}
 use mathlib.Core.Logic.{⊎-elim}
-use mathlib.Core.Bool.{Bool, true, false, cond, _&&_}
+use mathlib.Core.Bool.{true, false, cond, _&&_}
 use Prim.Native.Nat.{ℕ, _+_, _≤_, _<_}
 use native.Mathlib.Omega.{arith}
 use lib.Dec.{eqb, ltb}
-use lib.ListN.{length, getD, take}
-use Rattle.std.proofs.shelf.Lists.{take-more, take-all}
 use Rattle.std.proofs.shelf.Tests.{cond-true, cond-false, eq-eqb, ne-eqb, cases-eq, cases-bool, and-from, and-left, and-right, lt-ltb, le-ltb, cases-lt}
 use Rattle.store.specs.declared.Entry.{Entry}
-use Rattle.store.specs.Meaning.{Meaning, Lawful, isTable, updated}
+use Rattle.store.specs.Meaning.{Meaning, isTable, updated}
 use Rattle.store.proofs.Calls.{table-from}
 use Rattle.store_tools.specs.Visits.{Visited}
 
 -- m with the rows of f in the tables below n
 abbrev pub upTo : ℕ → (ℕ → List Entry) → Meaning → Meaning
 upTo n f m = record { limit = m .limit; tables = λ u. cond (isTable u && ltb u n) (f u) (m .tables u) }
-
-pub up-none : (f : ℕ → List Entry) (m : Meaning) → m ≡ upTo 1 f m
-up-none f m =
-    let each : (u : ℕ) → m .tables u ≡ cond (isTable u && ltb u 1) (f u) (m .tables u) = λ u. ⊎-elim
-    (λ e. let h = table-from u e in sym (cond-false (isTable u && ltb u 1) _ _ (and-right (isTable u) _ (le-ltb u 1 (h .0)))))
-    (λ e. sym (cond-false (isTable u && ltb u 1) _ _ (and-left (isTable u) (ltb u 1) e)))
-    (cases-bool (isTable u)) in
-    λ i. record { limit = m .limit; tables = fun-ext each i }
 
 pub up-more : (n : ℕ) (f : ℕ → List Entry) (m : Meaning) → isTable n ≡ true → updated (upTo n f m) n (f n) ≡ upTo (n + 1) f m
 up-more n f m it =

@@ -2,8 +2,6 @@
 ghost use mathlib.Core.Path.{_≡_};
 ghost use mathlib.Core.Bool.{true};
 ghost use mathlib.Core.List.{[]};
-ghost use Prim.Native.Nat.{_≤_};
-ghost use lib.ListN.{length};
 ghost use Rattle.store.specs.Meaning.{Lawful, isTable, updated, emptyOf};
 ghost use Rattle.store_tools.specs.Copies.{copyStoreAnswer, copyStoreAfter};
 use super::reads::entry_of;

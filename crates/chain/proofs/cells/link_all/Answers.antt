@@ -1,10 +1,9 @@
-use mathlib.Core.Path.{_≡_, refl, sym, ap, subst, _∙_}
+use mathlib.Core.Path.{_≡_, sym, ap, _∙_}
 use mathlib.Core.List.{map}
-use mathlib.Core.Logic.{⊎-elim}
-use Prim.Native.Nat.{ℕ, _+_, _<_}
+use Prim.Native.Nat.{_+_}
 use native.Mathlib.Omega.{arith}
 use borrow.Author.Count.{below-more}
-use lib.ListN.{getD, length, set}
+use lib.ListN.{getD, length}
 use Rattle.std.proofs.shelf.Lists.{getD-set-same, getD-set-other, length-map, getD-past}
 use Rattle.chain.specs.Lists.{upTo}
 use Rattle.chain.proofs.Fresh.{length-upTo, getD-upTo}

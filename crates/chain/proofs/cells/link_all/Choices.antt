@@ -1,7 +1,7 @@
 use mathlib.Core.Path.{_≡_}
 use mathlib.Core.List.{map}
 use Prim.Native.Nat.{ℕ, _+_, _<_}
-use lib.ListN.{getD, length}
+use lib.ListN.{getD}
 use Rattle.chain.specs.Lists.{upTo}
 use Rattle.chain.proofs.cells.link_all.Given as given
 

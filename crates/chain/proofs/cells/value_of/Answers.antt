@@ -1,4 +1,4 @@
-use mathlib.Core.Path.{sym, ap, _∙_}
+use mathlib.Core.Path.{sym}
 use Rattle.std.proofs.shelf.Lists.{getD-map}
 use Rattle.chain.proofs.cells.value_of.Needs as need
 

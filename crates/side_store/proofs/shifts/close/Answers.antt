@@ -1,7 +1,6 @@
 use mathlib.Core.Path.{_≡_, ap, _∙_}
 use Prim.Native.Nat.{_-_}
 use native.Mathlib.Omega.{arith}
-use lib.ListN.{set}
 use Rattle.side_store.proofs.Moves.{pulled-none, pulled-more, pulled}
 use Rattle.side_store.proofs.shifts.close.Needs as need
 

@@ -1,6 +1,5 @@
 use mathlib.Core.Path.{_≡_, ap, _∙_}
 use native.Mathlib.Omega.{arith}
-use borrow.Author.Needs.{needs}
 use lib.ListN.{set}
 use Rattle.side_store.proofs.Moves.{shifted-none, shifted-more, shifted-all, shifted}
 use Rattle.side_store.proofs.shifts.open.Needs as need

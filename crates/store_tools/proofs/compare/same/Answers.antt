@@ -1,7 +1,5 @@
-use mathlib.Core.Path.{_≡_, refl, sym, ap, _∙_}
-use Prim.Native.Nat.{ℕ}
+use mathlib.Core.Path.{refl, sym, _∙_}
 use native.Mathlib.Omega.{arith}
-use Rattle.store.proofs.Calls.{is-table}
 use Rattle.store_tools.proofs.Tables.{same-more, same-all}
 use Rattle.store_tools.proofs.compare.same.Needs as need
 

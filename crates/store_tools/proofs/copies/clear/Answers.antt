@@ -1,10 +1,9 @@
-use mathlib.Core.Path.{_≡_, sym, ap, _∙_}
+use mathlib.Core.Path.{sym, ap, _∙_}
 use mathlib.Core.List.{[]}
-use Prim.Native.Nat.{ℕ}
 use native.Mathlib.Omega.{arith}
 use Rattle.store.specs.Meaning.{updated}
 use Rattle.store.proofs.Calls.{is-table}
-use Rattle.store_tools.proofs.Tables.{up-none, up-more, up-all, up-outside}
+use Rattle.store_tools.proofs.Tables.{up-more, up-all, up-outside}
 use Rattle.store_tools.proofs.copies.clear.Needs as need
 
 pub clear-table-requires : need.clear-table-requires

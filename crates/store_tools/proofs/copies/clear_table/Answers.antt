@@ -1,6 +1,5 @@
-use mathlib.Core.Path.{_≡_, refl, sym, ap, _∙_}
-use mathlib.Core.List.{[]}
-use Prim.Native.Nat.{ℕ, _+_, _<_}
+use mathlib.Core.Path.{_≡_, ap, _∙_}
+use Prim.Native.Nat.{ℕ}
 use native.Mathlib.Omega.{arith}
 use borrow.Author.Needs.{needs}
 use lib.ListN.{length, getD, drop}
@@ -9,7 +8,7 @@ use mir.Val.{toZ, ofZ, SFits}
 use Rattle.std.proofs.shelf.Lists.{length-drop, getD-drop, drop-all}
 use Rattle.std.proofs.shelf.Signed.{toZ-ofZ}
 use Rattle.store.specs.Meaning.{Meaning, updated, noEntry}
-use Rattle.store_tools.proofs.Copying.{updated-at, updated-same, cleared-more}
+use Rattle.store_tools.proofs.Copying.{updated-at, cleared-more}
 use Rattle.store_tools.proofs.copies.clear_table.Needs as need
 
 -- the rows left after i turns

@@ -1,14 +1,13 @@
-use mathlib.Core.Path.{_≡_, refl, sym, ap, subst, _∙_}
-use Prim.Native.Nat.{ℕ, _+_, _<_, _≤_}
+use mathlib.Core.Path.{_≡_, ap, _∙_}
 use native.Mathlib.Omega.{arith}
 use borrow.Author.Needs.{needs}
-use lib.ListN.{length, getD, take}
+use lib.ListN.{getD}
 use mir.Syntax.{w32}
 use mir.Val.{toZ, ofZ, SFits}
 use Rattle.std.proofs.shelf.Lists.{take-all}
 use Rattle.std.proofs.shelf.Signed.{toZ-ofZ}
-use Rattle.store.specs.Meaning.{Meaning, updated, noEntry}
-use Rattle.store_tools.proofs.Copying.{updated-same, copied-more}
+use Rattle.store.specs.Meaning.{updated, noEntry}
+use Rattle.store_tools.proofs.Copying.{copied-more}
 use Rattle.store_tools.proofs.copies.copy_table.Needs as need
 
 pub loop-position-again : need.loop-position-again

@@ -1,10 +1,8 @@
-use mathlib.Core.Path.{_≡_, sym, ap, _∙_}
-use mathlib.Core.List.{[]}
-use Prim.Native.Nat.{ℕ}
+use mathlib.Core.Path.{sym, ap, _∙_}
 use native.Mathlib.Omega.{arith}
 use Rattle.store.specs.Meaning.{updated}
 use Rattle.store.proofs.Calls.{is-table}
-use Rattle.store_tools.proofs.Tables.{upTo, up-none, up-more, up-all, up-here}
+use Rattle.store_tools.proofs.Tables.{up-more, up-all, up-here}
 use Rattle.store_tools.proofs.copies.copy_tables.Needs as need
 
 pub copy-table-requires : need.copy-table-requires

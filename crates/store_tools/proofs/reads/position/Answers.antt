@@ -9,12 +9,12 @@ use lib.ListN.{getD}
 use mir.Syntax.{w32}
 use mir.Val.{toZ, ofZ, SFits}
 use Rattle.std.specs.declared.option.Option.the-variants.{Some, None}
-use Rattle.std.specs.declared.result.Result.the-variants.{Ok, Err}
+use Rattle.std.specs.declared.result.Result.the-variants.{Ok}
 use Rattle.std.proofs.shelf.Signed.{toZ-ofZ}
 use Rattle.std.proofs.shelf.Tests.{cond-true, cond-false}
 use Rattle.store.specs.Meaning.{Meaning, isTable, holds, rank, noEntry, keyAt}
 use Rattle.store.proofs.Rows.{passed-more, found-at, missed-at, passed-all}
-use Rattle.store.proofs.Calls.{count-from, key-from, key-there}
+use Rattle.store.proofs.Calls.{count-from, key-from}
 use Rattle.store_tools.specs.Reads.{positionOf}
 use Rattle.store_tools.proofs.reads.position.Needs as need
 

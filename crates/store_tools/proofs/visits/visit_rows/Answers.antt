@@ -1,13 +1,12 @@
-use mathlib.Core.Path.{_≡_, refl, sym, ap, subst, _∙_}
+use mathlib.Core.Path.{_≡_, sym, ap, subst, _∙_}
 use mathlib.Core.List.{[], _∷_, _++_}
 use Prim.Native.Nat.{_+_}
 use native.Mathlib.Omega.{arith}
-use borrow.Author.Needs.{needs}
-use lib.ListN.{length, getD, take}
+use lib.ListN.{take}
 use Rattle.std.proofs.shelf.Lists.{take-more, take-all}
 use Rattle.std.proofs.shelf.Tests.{cond-true}
 use Rattle.store.specs.Meaning.{noEntry}
-use Rattle.store.proofs.Calls.{count-from, count-refused}
+use Rattle.store.proofs.Calls.{count-from}
 use Rattle.store_tools.specs.Visits.{Visited}
 use Rattle.store_tools.proofs.Tables.{visited-more}
 use Rattle.store_tools.proofs.visits.visit_rows.Needs as need

@@ -1,5 +1,4 @@
 use mathlib.Core.Path.{_≡_, refl, ap}
-use mathlib.Core.List.{List}
 use Prim.Native.Nat.{ℕ, zero, suc, _-_, _*_}
 use lib.ListN.{getD, take, drop, replicate}
 use Rattle.store.proofs.Keeping.{storing-none}
