@@ -1,0 +1,5 @@
+pub mod Words
+pub mod Ranges
+pub mod Chains
+pub mod Meaning
+pub mod View

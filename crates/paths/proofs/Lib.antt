@@ -1,0 +1,4 @@
+mod Numerals
+mod Marks
+mod Decoding
+mod Laws
