@@ -43,7 +43,7 @@ use Rattle.syntax.specs.declared.tables.Schema.{Schema}
 use Rattle.syntax.specs.Tables.{tableBehind, tablesAt}
 use Rattle.syntax.specs.Statements.{statementBy, holding, blockAt}
 use Rattle.syntax.specs.Whole.{orBehind, endAt, modelAt, formOf}
-use Rattle.syntax.specs.Grammar.{Spells, Accepts, Completes}
+use Rattle.syntax.specs.Grammar.{Spells, Formed}
 use Rattle.syntax.proofs.BlocksAccepted.{Blocked, block-ok}
 use Rattle.syntax.proofs.BlocksComplete.{stop, block-read}
 use Rattle.syntax.proofs.TablesAccepted.{TablesRead, tables-ok}
@@ -106,7 +106,7 @@ block-first (loop c x b) = record { token = keyword kw.While; others = _; is = r
 end-same : (x y : ℕ) → _≡_ {A = Result ℕ Fault} (Ok x) (Ok y) → x ≡ y
 end-same x y h = cc
 
-pub accepts : Accepts
+pub accepts : (text : List ℕ) → formOf text ≡ Ok tt → Formed text
 accepts text h =
     let i = cond-ok (leb (length text) 16384) (modelAt text) ModelTooLong tt h in
     let a = keyword-step text kw.Model 0 _ _ (i .1) in
@@ -140,8 +140,8 @@ accepts text h =
       (cut .0, cut-laid text 0 (cut .0) (e .0) (cut .1) (end-ok text (e .0) (e .2)), cut .2),
     )
 
-pub completes : Completes
-completes text m fits well spelled =
+complete-model : (text : List ℕ) (m : Model) → length text ≤ 16384 → WellFormed m → Spells text m → formOf text ≡ Ok tt
+complete-model text m fits well spelled =
     let c = laid-cut text 0 (spelled .0) (spelled .1) in
     let to = c .0 in
     let stands : Stands text 0 (modelWords m) to = subst (λ ws. Stands text 0 ws to) (spelled .2) (cut-stands text 0 to (spelled .0) (c .1)) in
@@ -159,3 +159,6 @@ completes text m fits well spelled =
     then-by (tablesAt text b) _ (p .0) _ (then-by (repeated (tableBehind text) 9 (record { end = b; tables = 8; references = 16; checks = 16 })) (λ s. Ok (s .end)) _ _ tables refl)
     (then-by (blockAt text 8 (p .0) 256) _ (q .0, 256 - countOf (m .statements)) _ (block-read text (m .statements) 8 257 (p .0) 256 (q .0) (well .shallow) few4 (omega arith) (well .statements-fit) (stop text (q .2) refl) (q .1))
     (keyword-go text kw.EndModel (q .0) (endAt text) _ [] to (q .2) (λ e s. end-read text e (ap (nextToken text) (over s) ∙ c .2))))))
+
+pub completes : (text : List ℕ) → Formed text → formOf text ≡ Ok tt
+completes text f = complete-model text (f .1) (f .0) (f .2) (f .3)

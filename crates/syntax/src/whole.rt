@@ -1,6 +1,7 @@
 //! The form of a whole model.
 ghost use mathlib.Core.Path.{_≡_};
-ghost use Rattle.syntax.specs.Grammar.{Accepts, Completes};
+ghost use Rattle.std.specs.declared.result.Result.the-variants.{Ok};
+ghost use Rattle.syntax.specs.Grammar.{Formed};
 ghost use Rattle.syntax.specs.Whole.{endAt, formOf};
 use super::statements::read_block;
 use super::tables::tables_end;
@@ -23,8 +24,8 @@ fn expect_end(text: &[u8], at: usize) -> Result<(), Fault>
     }
 }
 
-/// Checks the form of a model: MODEL, a name, tables, statements, ENDMODEL.
-pub fn check_form(text: &[u8]) -> Result<(), Fault>
+/// Reads a model to its end: MODEL, a name, tables, statements, ENDMODEL.
+fn read_model(text: &[u8]) -> Result<(), Fault>
     ensures { λ r. ⌜ r ≡ formOf (now (text .entry)) ⌝ }
 {
     check_length(text)?;
@@ -36,10 +37,11 @@ pub fn check_form(text: &[u8]) -> Result<(), Fault>
     expect_end(text, at)
 }
 
-/// What `check_form` accepts spells a well-formed model, and every text that spells one is accepted.
-pub fn models_are_the_grammar() -> u8
-    ensures accepts { λ _. ⌜ Accepts ⌝ }
-    ensures completes { λ _. ⌜ Completes ⌝ }
+/// Checks the form of a model: it is accepted exactly when its text spells a well-formed model.
+pub fn check_form(text: &[u8]) -> Result<(), Fault>
+    ensures value { λ r. ⌜ r ≡ formOf (now (text .entry)) ⌝ }
+    ensures accepts { λ r. ⌜ (r ≡ Ok tt → Formed (now (text .entry))) ⌝ }
+    ensures completes { λ r. ⌜ (Formed (now (text .entry)) → r ≡ Ok tt) ⌝ }
 {
-    0
+    read_model(text)
 }
