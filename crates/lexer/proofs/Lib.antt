@@ -2,5 +2,5 @@ mod Steps
 mod Next
 mod Splits
 mod Found
-mod Laws
+pub mod Laws
 mod Respacing

@@ -1,2 +1,9 @@
 mod Repeating
 mod Levels
+mod Runs
+mod Parts
+mod BlocksAccepted
+mod BlocksComplete
+mod TablesAccepted
+mod TablesComplete
+mod Models

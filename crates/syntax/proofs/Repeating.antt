@@ -1,5 +1,5 @@
 -- The steps of a loop that takes one thing after another.
-use mathlib.Core.Path.{_≡_, refl, sym, ap, _∙_}
+use mathlib.Core.Path.{_≡_, refl, sym, ap, _∙_, subst}
 use Prim.Native.Nat.{ℕ, zero, suc, _-_, _≤_, _<_}
 use native.Mathlib.Omega.{arith}
 use Rattle.std.specs.declared.option.Option.{Option}
@@ -58,3 +58,15 @@ module _ {S : Type 0} (one : S → Result (Option S) Fault) (size : S → ℕ) (
 
   pub going-refused : (s : S) (f : Fault) → Going one size n from s → one s ≡ Err f → repeated one n from ≡ Err f
   going-refused s f g e = let enough = g .enough in sym (g .same) ∙ repeated-refused one (g .left) s f (omega arith) e
+
+-- What holds of a state and itself, and one thing earlier where it holds, holds of the first state and the last.
+module _ {S : Type 0} (one : S → Result (Option S) Fault) (P : S → S → Type 0) (stay : (s : S) → P s s) (step : (s t r : S) → one s ≡ Ok (Some t) → P t r → P s r) where
+  onward-ok : (go : S → Result S Fault) → ((s r : S) → go s ≡ Ok r → P s r) → (s r : S) (o : Result (Option S) Fault) → one s ≡ o → onward go s o ≡ Ok r → P s r
+  onward-ok go ih s r (Err f) is h = let z : _≡_ {A = ℕ} 0 1 = cc in absurd (omega arith)
+  onward-ok go ih s r (Ok None) is h = let e : s ≡ r = cc in subst (P s) e (stay s)
+  onward-ok go ih s r (Ok (Some t)) is h = step s t r is (ih t r h)
+
+  pub repeated-ok : (n : ℕ) (s r : S) → repeated one n s ≡ Ok r → P s r
+  unfolding repeated
+  repeated-ok zero s r h = let e : s ≡ r = cc in subst (P s) e (stay s)
+  repeated-ok (suc n) s r h = onward-ok (repeated one n) (repeated-ok n) s r (one s) refl h
