@@ -17,6 +17,8 @@ use store::Entry;
 use store::Store;
 use store::WIDTH;
 use store::records_needed;
+use store_tools::clear;
+use store_tools::copy_store;
 use store_tools::same;
 
 /// As many records as the largest limit takes.
@@ -174,6 +176,14 @@ fn mixed_steps<A: Store, B: Store>(a: &mut A, b: &mut B, plain: &mut Plain, step
     compared(a, b, plain, t)
 }
 
+/// Copies a store into another and compares them, then empties the other and compares it with no rows.
+fn copied<A: Store, B: Store>(from: &A, to: &mut B, none: &Plain, tally: Tally) -> Tally {
+    let done = copy_store(from, to).is_ok();
+    let t = tally.held_to(done && same(from, to));
+    clear(to);
+    compared(to, to, none, t)
+}
+
 /// A round of mixed steps, in which tables get full and empty again.
 pub fn mixed_round(heap: Global, limit: u16, steps: u16) -> Result<Tally, Fault> {
     let rows = usize::from(limit);
@@ -184,5 +194,6 @@ pub fn mixed_round(heap: Global, limit: u16, steps: u16) -> Result<Tally, Fault>
     let mut side = SideStore::new(&mut slots, rows);
     let mut plain = Plain::new(heap, rows);
     let t = mixed_steps(&mut chained, &mut side, &mut plain, steps);
+    let t = copied(&chained, &mut side, &Plain::new(heap, rows), t);
     Ok(t.held_to(blank_cells(&cells[records..]) && blank_slots(&slots[records..])))
 }
