@@ -1,45 +1,37 @@
 -- Statements and blocks: what stands there is accepted.
 use mathlib.Core.Path.{_≡_, refl, sym, ap, _∙_, subst}
-use mathlib.Core.Bool.{Bool, true, false, cond, not, _&&_, _||_}
-use mathlib.Core.List.{List, [], _∷_, _++_, map, append-assoc}
-use mathlib.Core.Logic.{_⊎_, inl, inr}
-use Prim.Native.Nat.{ℕ, zero, suc, max, _+_, _-_, _≤_, _<_}
+use mathlib.Core.Bool.{true, false, cond}
+use mathlib.Core.List.{List, [], _∷_, _++_, append-assoc}
+use Prim.Native.Nat.{ℕ, zero, suc, _-_, _≤_, _<_}
 use native.Mathlib.Omega.{arith}
-use lib.Dec.{eqb, leb}
-use lib.ListN.{length, length-append}
 use Rattle.std.specs.declared.option.Option.{Option}
 use Rattle.std.specs.declared.option.Option.the-variants.{Some, None}
 use Rattle.std.specs.declared.result.Result.{Result}
 use Rattle.std.specs.declared.result.Result.the-variants.{Ok, Err}
-use Rattle.std.proofs.shelf.Tests.{and-parts, and-from, or-from, or-parts, cond-true, cond-false}
+use Rattle.std.proofs.shelf.Tests.{or-parts}
 use Rattle.faults.specs.declared.Fault.{Fault}
-use Rattle.faults.specs.declared.Fault.the-variants.{NotAllowed, LimitPassed}
+use Rattle.faults.specs.declared.Fault.the-variants.{NotAllowed}
 use Rattle.lexer.specs.declared.keywords.Keyword.{Keyword}
 use Rattle.lexer.specs.declared.keywords.Keyword.the-variants as kw
-use Rattle.lexer.specs.declared.signs.Sign.{Sign}
-use Rattle.lexer.specs.declared.signs.Sign.the-variants.{Open, Close, Comma, Dot, Semicolon, Equal, Less, More}
-use Rattle.terms.specs.declared.pull.Word.{Word}
+use Rattle.lexer.specs.declared.signs.Sign.the-variants.{Open, Close, Dot, Semicolon, Equal}
 use Rattle.terms.specs.declared.pull.Word.the-variants as word
-use Rattle.terms.specs.declared.pull.Pulled.{Pulled}
-use Rattle.terms.specs.declared.shapes.Want.{Want}
 use Rattle.terms.specs.declared.shapes.Want.the-variants as want
-use Rattle.terms.specs.Pull.{andThen, pulled, must, isSign, isKeyword, isName, signAt, keywordAt, nameAt}
-use Rattle.terms.specs.Trees.{Token, name, number, keyword, sign, Tree, literal, lone, head, cell, truth, isNil, only, pair, wordsOf, shapeOf}
-use Rattle.terms.specs.Grammar.{Stands, Ends}
-use Rattle.terms.proofs.Steps.{never, untrue, nothing, then-ok, then-by, cond-ok, wordIn, First, first, came}
-use Rattle.terms.proofs.Completing.{stops, stopped, complete}
-use Rattle.syntax.specs.Repeats.{some, onward, repeated}
-use Rattle.syntax.specs.Trees.{Reference, Check, Table, Act, next, insert, update, delete, Simple, assign, clear, tail, select, caught, read, load, act, commit, rollback, Block, none, simple, branch, loop, Model, namesWords, valuesWords, referencesWords, checksWords, keyWords, tableWords, tablesWords, actWords, simpleWords, blockWords, modelWords, Fits, AllFit, ActFits, SimpleFits, BlockFits, countOf, levelsOf, ChecksFit, TablesFit, referencesIn, checksIn, WellFormed}
-use Rattle.syntax.proofs.Repeating.{repeated-none, repeated-ok}
-use Rattle.syntax.proofs.Runs.{Run, run-none, glue, split, over, ends-at, used, sign-step, keyword-step, name-step, sign-go, keyword-go, name-go, pull-step, pull-go, term-go, term-step, sign-last, keyword-last, name-last, sign-end, keyword-end, name-end, term-last, Follows, follows, term-end, pulled-sign, pulled-keyword, pulled-name}
+use Rattle.terms.specs.Pull.{andThen, pulled, must, isSign, isKeyword, signAt, keywordAt}
+use Rattle.terms.specs.Trees.{Token, name, number, keyword, sign, Tree, literal, lone, head, cell, truth, isNil, only, pair, wordsOf}
+use Rattle.terms.specs.Grammar.{Stands}
+use Rattle.terms.proofs.Steps.{then-by, wordIn, First, first}
+use Rattle.syntax.specs.Repeats.{some, repeated}
+use Rattle.syntax.specs.Trees.{Act, next, insert, update, delete, Simple, assign, clear, tail, select, caught, read, load, act, commit, rollback, Block, none, simple, branch, loop, namesWords, actWords, simpleWords, blockWords, Fits, ActFits, SimpleFits, BlockFits, countOf, levelsOf}
+use Rattle.syntax.proofs.Repeating.{repeated-none}
+use Rattle.syntax.proofs.Runs.{Run, split, over, sign-go, keyword-go, pull-go, term-go, sign-end, keyword-end, Follows, follows, term-end}
 use Rattle.syntax.specs.declared.clauses.Write.the-variants.{Insert, Update, Delete}
 use Rattle.syntax.specs.declared.statements.Holder.{Holder}
 use Rattle.syntax.specs.declared.statements.Holder.the-variants.{If, While}
 use Rattle.syntax.specs.declared.statements.First as firsts
 use Rattle.syntax.specs.declared.statements.First.the-variants as begin
-use Rattle.syntax.specs.Clauses.{termEnd, argumentAt, insertRest, updateRest, deleteRest, caughtIn, caughtRest, selectRest, found, isTail, tailOr, valueIn, valueRest}
+use Rattle.syntax.specs.Clauses.{termEnd, caughtIn, found, isTail, tailOr, valueIn, valueRest}
 use Rattle.syntax.specs.Tables.{withRoom}
-use Rattle.syntax.specs.Statements.{firstOf, callAt, simpleBody, simpleRest, lastWord, Blocks, partAt, branchAt, loopAt, holderAt, Holding, statementIn, statementBy, sequence, holding, blockAt}
+use Rattle.syntax.specs.Statements.{firstOf, simpleBody, simpleRest, lastWord, Blocks, partAt, branchAt, loopAt, holderAt, Holding, statementIn, statementBy, holding, blockAt}
 use Rattle.syntax.proofs.Repeating.{repeated-some}
 use Rattle.syntax.proofs.Levels.{holding-more}
 use Rattle.syntax.proofs.Parts.{argument-read, insert-read, update-read, delete-read, select-read}

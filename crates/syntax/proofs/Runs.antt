@@ -1,30 +1,25 @@
 -- Tokens one after another: what a reader that goes on took, and that it goes on over what stands there.
 use mathlib.Core.Path.{_≡_, refl, sym, ap, _∙_, subst}
-use mathlib.Core.Bool.{Bool, true, false, cond, _||_}
+use mathlib.Core.Bool.{true, false}
 use mathlib.Core.List.{List, [], _∷_, _++_}
-use Prim.Native.Nat.{ℕ, suc, _+_, _≤_}
+use Prim.Native.Nat.{ℕ, _+_, _≤_}
 use native.Mathlib.Omega.{arith}
 use lib.ListN.{length}
-use Rattle.std.specs.declared.option.Option.{Option}
-use Rattle.std.specs.declared.option.Option.the-variants.{Some, None}
 use Rattle.std.specs.declared.result.Result.{Result}
-use Rattle.std.specs.declared.result.Result.the-variants.{Ok, Err}
+use Rattle.std.specs.declared.result.Result.the-variants.{Ok}
 use Rattle.faults.specs.declared.Fault.{Fault}
 use Rattle.lexer.specs.declared.keywords.Keyword.{Keyword}
 use Rattle.lexer.specs.declared.signs.Sign.{Sign}
 use Rattle.lexer.specs.declared.signs.Sign.the-variants.{Comma}
 use Rattle.lexer.specs.Tokens.{after}
 use Rattle.lexer.proofs.Laws.{next-advances}
-use Rattle.terms.specs.declared.pull.Word.{Word}
 use Rattle.terms.specs.declared.pull.Pulled.{Pulled}
 use Rattle.terms.specs.declared.shapes.Want.{Want}
-use Rattle.terms.specs.declared.shapes.Shape.{Shape}
-use Rattle.terms.specs.Pull.{andThen, pulled, must, isSign, isKeyword, isName, signAt, keywordAt, nameAt}
-use Rattle.terms.specs.Shapes.{serves}
+use Rattle.terms.specs.Pull.{andThen, pulled, isSign, isKeyword, isName, signAt, keywordAt, nameAt}
 use Rattle.terms.specs.Terms.{termAt}
-use Rattle.terms.specs.Trees.{Token, name, number, keyword, sign, Tree, wordsOf, shapeOf, Sound, depthOf}
-use Rattle.terms.specs.Grammar.{Stands, Ends}
-use Rattle.terms.proofs.Steps.{then-ok, then-by, wordIn, sign-is, keyword-is, name-is, Came, came, must-came, sign-came, keyword-came, name-came, stands-append, stands-split, First, first, must-read, sign-read, keyword-read, name-read}
+use Rattle.terms.specs.Trees.{Token, name, keyword, sign, Tree, wordsOf}
+use Rattle.terms.specs.Grammar.{Stands}
+use Rattle.terms.proofs.Steps.{then-ok, then-by, wordIn, sign-is, keyword-is, name-is, came, sign-came, keyword-came, name-came, stands-append, stands-split, first, sign-read, keyword-read, name-read}
 use Rattle.terms.proofs.Accepting.{found-term}
 use Rattle.terms.proofs.Completing.{stops, stopped, complete}
 use Rattle.syntax.specs.Clauses.{termEnd}

@@ -3,7 +3,7 @@ use mathlib.Core.Path.{_≡_, refl, sym, ap, _∙_, subst}
 use mathlib.Core.Bool.{Bool, true, false, cond, _&&_, _||_}
 use mathlib.Core.List.{List, [], _∷_, _++_}
 use mathlib.Core.Logic.{_⊎_, inl, inr}
-use Prim.Native.Nat.{ℕ, zero, suc, max, _≤_}
+use Prim.Native.Nat.{ℕ, zero, suc, _≤_}
 use native.Mathlib.Omega.{arith}
 use lib.Dec.{eqb}
 use lib.ListN.{length}
@@ -20,7 +20,6 @@ use Rattle.lexer.specs.declared.signs.Sign.{Sign}
 use Rattle.lexer.specs.declared.signs.Sign.the-variants.{Open, Close, Dot, Minus, Not, Equal}
 use Rattle.lexer.specs.Tokens.{Lexeme}
 use Rattle.lexer.specs.Lexing.{nextToken, withEnd}
-use Rattle.terms.specs.declared.pull.Word.{Word}
 use Rattle.terms.specs.declared.pull.Word.the-variants as word
 use Rattle.terms.specs.declared.pull.Pulled.{Pulled}
 use Rattle.terms.specs.declared.shapes.Shape.{Shape}
@@ -29,7 +28,7 @@ use Rattle.terms.specs.declared.shapes.Want.{Want}
 use Rattle.terms.specs.declared.shapes.Want.the-variants as want
 use Rattle.terms.specs.declared.shapes.Operator.{Operator}
 use Rattle.terms.specs.declared.shapes.Operator.the-variants.{Computes, Compares, Joins}
-use Rattle.terms.specs.Pull.{wordOf, orRefused, andThen, pulled, isSign, isKeyword, isName, signNumber, signAt, keywordAt, nameAt}
+use Rattle.terms.specs.Pull.{orRefused, andThen, pulled, isSign, isKeyword, signNumber, signAt, keywordAt, nameAt}
 use Rattle.terms.specs.Shapes.{operatorOf, sidesOf, givenBy, serves, leftSide, takes, innerOf, madeOf}
 use Rattle.terms.specs.Terms.{Read, Inner, closedAs, tailOf, operatorBy, operatorIn, operatorAt, isLone, nilIn, nilBehind, rightSide, binary, unary, opened, begins, opening, termAt}
 use Rattle.terms.specs.Trees.{Token, name, number, keyword, sign, Tree, literal, lone, head, cell, truth, isNil, only, pair, wordsOf, givenIn, shapeOf, Sound, depthOf}

@@ -3,23 +3,17 @@ use mathlib.Core.Path.{_≡_, refl, sym, ap, _∙_, subst}
 use mathlib.Core.Bool.{Bool, true, false, cond, _&&_, _||_}
 use mathlib.Core.List.{List, [], _∷_, _++_}
 use mathlib.Core.Logic.{_⊎_, inl, inr}
-use Prim.Native.Nat.{ℕ, zero, suc, max, _-_, _≤_}
+use Prim.Native.Nat.{ℕ, _-_, _≤_}
 use native.Mathlib.Omega.{arith}
-use lib.Dec.{eqb}
-use Rattle.std.specs.declared.option.Option.{Option}
 use Rattle.std.specs.declared.option.Option.the-variants.{Some, None}
 use Rattle.std.specs.declared.result.Result.{Result}
 use Rattle.std.specs.declared.result.Result.the-variants.{Ok, Err}
-use Rattle.std.proofs.shelf.Tests.{and-from, or-from, or-parts, cond-true, cond-false}
+use Rattle.std.proofs.shelf.Tests.{and-from, or-parts, cond-true, cond-false}
 use Rattle.faults.specs.declared.Fault.{Fault}
-use Rattle.faults.specs.declared.Fault.the-variants.{NotAllowed}
-use Rattle.lexer.specs.declared.keywords.Keyword.{Keyword}
 use Rattle.lexer.specs.declared.keywords.Keyword.the-variants.{Head, Nil, True, False}
 use Rattle.lexer.specs.declared.signs.Sign.{Sign}
 use Rattle.lexer.specs.declared.signs.Sign.the-variants.{Not, Open, Close, Times, Plus, Comma, Minus, Dot, Over, Semicolon, Less, Equal, More, And, Or}
-use Rattle.lexer.specs.Tokens.{Lexeme}
 use Rattle.lexer.specs.Lexing.{nextToken}
-use Rattle.terms.specs.declared.pull.Word.{Word}
 use Rattle.terms.specs.declared.pull.Word.the-variants as word
 use Rattle.terms.specs.declared.pull.Pulled.{Pulled}
 use Rattle.terms.specs.declared.shapes.Shape.{Shape}
@@ -28,12 +22,12 @@ use Rattle.terms.specs.declared.shapes.Want.{Want}
 use Rattle.terms.specs.declared.shapes.Want.the-variants as want
 use Rattle.terms.specs.declared.shapes.Operator.{Operator}
 use Rattle.terms.specs.declared.shapes.Operator.the-variants.{Computes, Compares, Joins}
-use Rattle.terms.specs.Pull.{andThen, pulled, isSign, isKeyword, isName, must, signAt, keywordAt, nameAt}
-use Rattle.terms.specs.Shapes.{operatorOf, sidesOf, givenBy, serves, leftSide, takes, innerOf, madeOf}
-use Rattle.terms.specs.Terms.{Read, Inner, closedAs, tailOf, operatorBy, operatorIn, operatorAt, isLone, nilIn, nilBehind, rightSide, binary, unary, opened, begins, opening, termAt}
+use Rattle.terms.specs.Pull.{pulled, isSign, isKeyword, signAt, keywordAt, nameAt}
+use Rattle.terms.specs.Shapes.{operatorOf, sidesOf, givenBy, serves, leftSide, innerOf, madeOf}
+use Rattle.terms.specs.Terms.{Inner, closedAs, tailOf, operatorBy, operatorAt, isLone, nilIn, nilBehind, rightSide, binary, unary, opened, termAt}
 use Rattle.terms.specs.Trees.{Token, name, number, keyword, sign, Tree, literal, lone, head, cell, truth, isNil, only, pair, wordsOf, givenIn, shapeOf, Sound, depthOf}
-use Rattle.terms.specs.Grammar.{Stands, Term, goesOn, Ends, Completes}
-use Rattle.terms.proofs.Openings.{bracketAt, at-bracket, bracket-more}
+use Rattle.terms.specs.Grammar.{Stands, goesOn, Ends, Completes}
+use Rattle.terms.proofs.Openings.{at-bracket, bracket-more}
 use Rattle.terms.proofs.Steps.{untrue, nothing, then-by, wordIn, First, first, stands-split, sign-read, keyword-read, name-read}
 use Rattle.terms.proofs.Accepting.{goesBy, goes-on}
 
