@@ -14,6 +14,7 @@ use Rattle.std.specs.declared.option.Option.{Option}
 use Rattle.std.specs.declared.option.Option.the-variants.{Some, None}
 use Rattle.std.specs.declared.result.Result.{Result}
 use Rattle.std.specs.declared.result.Result.the-variants.{Ok, Err}
+use Rattle.std.proofs.shelf.Lists.{length-map}
 use Rattle.std.proofs.shelf.Tests.{cond-true, cond-false, cases-bool, lt-ltb, le-leb, lt-leb, ltb-true, leb-true, and-from, and-left, and-right, and-parts}
 use Rattle.faults.specs.declared.Fault.{Fault}
 use Rattle.faults.specs.declared.Fault.the-variants.{BadCase}
@@ -233,3 +234,27 @@ list-some b n count zero k some le = absurd (some refl)
 list-some b n count (suc j) k some le = ap (λ w. item (numbersFrom b n w) k) over ∙ sym (ap (λ o. inList o k) (list-at b n 11 count j (omega arith))) where
   over : 10 + suc j ≡ 11 + j
   over = omega arith
+
+-- ---- lengths
+
+pub length-end : (b : List ℕ) (n most i : ℕ) → isIndex n i ≡ false → length (chain b n most i) ≡ 0
+length-end b n zero i e = refl
+length-end b n (suc most) i e = ap length (cond-false _ _ _ e)
+
+pub length-more : (b : List ℕ) (n most i : ℕ) → 0 < most → isIndex n i ≡ true → length (chain b n most i) ≡ 1 + length (chain b n (most - 1) (pointer b (recordWord i)))
+length-more b n zero i h e = absurd (omega arith)
+length-more b n (suc most) i h e = let same = ap (λ m. length (chain b n m (pointer b (recordWord i)))) back in ap length (cond-true _ _ _ e) ∙ omega arith where
+  back : most ≡ suc most - 1
+  back = omega arith
+
+pub length-none : (b : List ℕ) (n most i : ℕ) → most ≡ 0 → length (chain b n most i) ≡ 0
+length-none b n most i e = ap (λ m. length (chain b n m i)) e
+
+pub rows-length : (b widths : List ℕ) (n t : ℕ) → isTable (length widths) t ≡ true → length (rowsOf b widths n t) ≡ length (chainFrom b n t)
+rows-length b widths n t e = ap length (cond-true _ _ _ e) ∙ length-map (chainFrom b n t) (rowOf b (getD widths (t - 1) 0))
+
+pub no-rows : (b widths : List ℕ) (n t : ℕ) → isTable (length widths) t ≡ false → length (rowsOf b widths n t) ≡ 0
+no-rows b widths n t e = ap length (cond-false _ _ _ e)
+
+pub numbers-length : (b : List ℕ) (n w : ℕ) → length (numbersFrom b n w) ≡ length (chainFrom b n w)
+numbers-length b n w = length-map (chainFrom b n w) (firstValue b)

@@ -73,3 +73,17 @@ pub(crate) fn nth_record(
     }
     Some(index)
 }
+
+/// How many records the chain has whose head is a word.
+pub(crate) fn chain_length(bytes: &[u8], records: usize, head: usize) -> usize
+    ensures { λ r. ⌜ r ≡ length (chainFrom (now (bytes .entry)) records head) ⌝ }
+{
+    let mut index = index_at(bytes, head);
+    for turn in 0..records {
+        if index == 0 || index > records {
+            return turn;
+        }
+        index = index_at(bytes, record_at(index));
+    }
+    records
+}

@@ -8,11 +8,13 @@ ghost use Rattle.meaning.specs.Evaluation.{cut};
 ghost use Rattle.cases.specs.Chains.{item};
 ghost use Rattle.cases.specs.Meaning.{values, isTable, numbersFrom, caseVerdict, listItem};
 ghost use Rattle.cases.specs.View.{shown, caseRead};
+use super::chains::chain_length;
 use super::chains::check_chains;
 use super::chains::nth_record;
 use super::check::check_size;
 use super::check::check_words;
 use super::words::LISTS;
+use super::words::READS;
 use super::words::VALUES;
 use super::words::index_at;
 use super::words::record_at;
@@ -77,11 +79,28 @@ impl<'a> Case<'a> {
         }
     }
 
+    /// How many rows a table has.
+    pub fn rows(&self, table: usize) -> usize
+        ensures { λ r. ⌜ r ≡ length (shown (now (self .entry)) .rows table) ⌝ }
+    {
+        if !is_table(self.widths.len(), table) {
+            return 0;
+        }
+        chain_length(self.bytes, self.records, table)
+    }
+
+    /// How many numbers there are to read.
+    pub fn reads(&self) -> usize
+        ensures { λ r. ⌜ r ≡ length (shown (now (self .entry)) .reads) ⌝ }
+    {
+        chain_length(self.bytes, self.records, READS)
+    }
+
     /// The number to read at a position, counted from 0.
     pub fn read(&self, position: usize) -> Option<i32>
         ensures { λ r. ⌜ r ≡ item (shown (now (self .entry)) .reads) position ⌝ }
     {
-        self.number(9, position)
+        self.number(READS, position)
     }
 
     /// How many lists there are to load.

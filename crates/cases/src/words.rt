@@ -12,6 +12,9 @@ pub(crate) const RECORD: usize = 1 + VALUES;
 /// The words of the head.
 pub(crate) const HEAD: usize = 19;
 
+/// The word that is the head of the reads.
+pub(crate) const READS: usize = 9;
+
 /// The word that is the count of lists.
 pub(crate) const LISTS: usize = 10;
 

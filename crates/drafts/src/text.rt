@@ -1,11 +1,18 @@
 //! The text of a case, line by line.
+ghost use mathlib.Core.Bool.{true};
+ghost use mathlib.Core.Path.{_≡_};
 ghost use Prim.Native.Nat.{_≤_};
 ghost use lib.ListN.{length};
+ghost use Rattle.cases.specs.Meaning.{caseVerdict};
+ghost use Rattle.std.specs.Of.Vec.{vec-items};
+ghost use Rattle.std.specs.Results.{isOk};
+ghost use Rattle.std.specs.Vec.{made};
 use super::bytes::MOST_RECORDS;
 use super::bytes::Written;
 use super::bytes::file_of;
 use super::bytes::first_of;
 use super::numbers::read_numbers;
+use cases::view::read_case;
 use std::alloc::AllocError;
 use std::alloc::Global;
 use std::alloc::Refused;
@@ -176,8 +183,20 @@ fn take_line(
     }
 }
 
+/// Whether bytes are a well-formed case file for a model of 8 tables.
+fn is_case(bytes: &[u8]) -> bool
+    ensures { λ r. ⌜ r ≡ isOk (caseVerdict 8 (now (bytes .entry))) ⌝ }
+{
+    match read_case(bytes, &[8, 8, 8, 8, 8, 8, 8, 8]) {
+        Ok(_) => true,
+        Err(_) => false,
+    }
+}
+
 /// The bytes of the case file that a text writes: lines `table N`, rows of numbers, `reads ..`, `list ..`.
-pub fn case_bytes(heap: Global, text: &[u8]) -> Result<Vec<u8>, TextFault> {
+pub fn case_bytes(heap: Global, text: &[u8]) -> Result<Vec<u8>, TextFault>
+    ensures { λ r. ⌜ made r (λ v. isOk (caseVerdict 8 (vec-items v)) ≡ true) ⌝ }
+{
     let mut records = Vec::new(heap);
     let mut standing = Standing { table: 0, lists: 0 };
     let mut at = 0;
@@ -197,5 +216,9 @@ pub fn case_bytes(heap: Global, text: &[u8]) -> Result<Vec<u8>, TextFault> {
     if records.len() > MOST_RECORDS {
         return Err(TextFault::BadLine { line });
     }
-    Ok(file_of(heap, records.as_slice(), standing.lists)?)
+    let bytes = file_of(heap, records.as_slice(), standing.lists)?;
+    if !is_case(bytes.as_slice()) {
+        return Err(TextFault::BadLine { line });
+    }
+    Ok(bytes)
 }

@@ -180,9 +180,9 @@ mod tests {
                 let case = read_case(file.as_slice(), &[1, 8])?;
                 check(case.row(2, 0) == Some([7, -3, 0, 0, 0, 0, 0, 0]))?;
                 check(case.row(2, 1) == Some([8, 0, 0, 0, 0, 0, 0, 0]))?;
-                check(case.row(2, 2) == None)?;
+                check(case.row(2, 2) == None && case.rows(2) == 2 && case.rows(3) == 0)?;
                 check(case.row(1, 0) == Some([5, 0, 0, 0, 0, 0, 0, 0]))?;
-                check(case.read(1) == Some(-2) && case.read(2) == None)?;
+                check(case.read(1) == Some(-2) && case.read(2) == None && case.reads() == 2)?;
                 check(case.lists() == 2 && case.list(1, 0) == None)?;
                 check(case.list(2, 0) == Some(4) && case.list(3, 0) == None)
             }
