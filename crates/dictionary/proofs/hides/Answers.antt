@@ -6,4 +6,4 @@ use Rattle.dictionary.proofs.hides.Goals as goal
 pub returns : goal.returns
 returns c =
     let d = decl_of c.args.tables.now in
-    c.is-some.ensures ∙ ap is_some (c.field-place.ensures ∙ by_bytes c.args.text.now (fields_of d (shape_of d c.args.table)) c.args.name)
+    c.is_some.ensures ∙ ap is_some (c.field_place.ensures ∙ by_bytes c.args.text.now (fields_of d (shape_of d c.args.table)) c.args.name)

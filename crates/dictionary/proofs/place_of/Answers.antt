@@ -6,4 +6,4 @@ use Rattle.dictionary.proofs.place_of.Goals as goal
 pub returns : goal.returns
 returns c =
     let d = decl_of c.args.tables.now in
-    c.unwrap-or.ensures ∙ ap (λ o. unwrap_or o 0) (c.field-place.ensures ∙ by_bytes c.args.text.now (fields_of d (shape_of d c.args.table)) c.args.name)
+    c.unwrap_or.ensures ∙ ap (λ o. unwrap_or o 0) (c.field_place.ensures ∙ by_bytes c.args.text.now (fields_of d (shape_of d c.args.table)) c.args.name)

@@ -5,4 +5,4 @@ use Rattle.dictionary.proofs.Words.{by_bytes}
 use Rattle.dictionary.proofs.table_of.Goals as goal
 
 pub returns : goal.returns
-returns c = c.table-number.ensures ∙ ap counted (by_bytes c.args.text.now (decl_of c.args.tables.now).titles c.args.name)
+returns c = c.table_number.ensures ∙ ap counted (by_bytes c.args.text.now (decl_of c.args.tables.now).titles c.args.name)

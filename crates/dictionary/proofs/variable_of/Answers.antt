@@ -8,6 +8,6 @@ pub returns : goal.returns
 returns c =
     let text = c.args.text.now in
     let name = c.args.name in
-    c.unwrap-or.ensures
+    c.unwrap_or.ensures
     ∙ ap (λ o. unwrap_or o 0)
-    (c.place-among.ensures.value ∙ ap (λ l. place_among text l name) c.as-slice.ensures.value ∙ by_bytes text (names_of c.args.names.now).names name)
+    (c.place_among.ensures.value ∙ ap (λ l. place_among text l name) c.as_slice.ensures.value ∙ by_bytes text (names_of c.args.names.now).names name)

@@ -9,8 +9,8 @@ loop-turn-init c =
     let b = c.args.bytes.now in
     let n = c.args.records in
     let all : n ≡ n - 0 = omega arith in
-    let same = ap (λ i. length (chain b n n i)) (sym c.index-at-index.ensures.value) ∙ ap (λ m. length (chain b n m c.index-at-index.result)) all in
-    (same ∙ omega arith, c.index-at-index.ensures.small)
+    let same = ap (λ i. length (chain b n n i)) (sym c.index_at-index.ensures.value) ∙ ap (λ m. length (chain b n m c.index_at-index.result)) all in
+    (same ∙ omega arith, c.index_at-index.ensures.small)
 
 pub returns-then-index-eq0 : goal.returns-then-index-eq0
 returns-then-index-eq0 c =
@@ -23,13 +23,13 @@ loop-turn-preserved c =
     let b = c.args.bytes.now in
     let n = c.args.records in
     let i = c.loop-turn.index in
-    let j = c.index-at-index-in-loop-turn.result in
+    let j = c.index_at-index-in-loop-turn.result in
     let more = length_more b n (n - c.loop-turn.turn) i (omega arith) (is_index_lem n i (omega arith) (omega arith)) in
     let less : n - c.loop-turn.turn - 1 ≡ n - (c.loop-turn.turn + 1) = omega arith in
-    let next : pointer b (record_word i) ≡ j = ap (pointer b) (sym c.record-at.ensures) ∙ sym c.index-at-index-in-loop-turn.ensures.value in
+    let next : pointer b (record_word i) ≡ j = ap (pointer b) (sym c.record_at.ensures) ∙ sym c.index_at-index-in-loop-turn.ensures.value in
     let on = ap (λ k. length (chain b n (n - c.loop-turn.turn - 1) k)) next ∙ ap (λ m. length (chain b n m j)) less in
     let so_far = c.loop-turn.invariant.0 in
-    (omega arith, c.index-at-index-in-loop-turn.ensures.small)
+    (omega arith, c.index_at-index-in-loop-turn.ensures.small)
 
 pub returns : goal.returns
 returns c =

@@ -4,17 +4,17 @@ use Rattle.std.proofs.lemmas.Bool.{ne_eqb, eq-eqb, cond-true, cond-false}
 use Rattle.cases.specs.Chains.{met, trails, trail_from, none_met, met_again, passed}
 use Rattle.cases.proofs.Walks.{met_on, met_stop, trails_more}
 use Rattle.cases.proofs.chains.check_chains.Goals as goal
-use Rattle.cases.proofs.chains.check_chains.Goals.{then-head-ne10+in-ok-follow, else-head-ne10}
+use Rattle.cases.proofs.chains.check_chains.Goals.{then-head-ne10+in_ok-follow, else-head-ne10}
 
-pub returns-in-err-follow : goal.returns-in-err-follow
+pub returns-in_err-follow : goal.returns-in_err-follow
 unfolding met_again
-returns-in-err-follow c =
+returns-in_err-follow c =
     let b = c.args.bytes.now in
     let n = c.args.records in
     let w = c.loop-head.head in
-    let p = err_from_is_err_and c.from-residual.result c.from-residual.ensures.1 in
+    let p = err_from_is_err_and c.from_residual.result c.from_residual.ensures.1 in
     let here : cond (eqb w 10) [] (trail_from b n w) ≡ trail_from b n w = cond-false _ _ _ (ne_eqb w 10 c.if-head-ne10.true) in
-    let stop = met_stop (trail_from b n w) (trails b n (w + 1) (19 - w - 1)) c.loop-head.noted c.in-err-follow.field-0.0 c.in-err-follow.ensures.value in
+    let stop = met_stop (trail_from b n w) (trails b n (w + 1) (19 - w - 1)) c.loop-head.noted c.in_err-follow.field-0.0 c.in_err-follow.ensures.value in
     let whole = c.loop-head.invariant.1 ∙ ap (met c.loop-head.noted) (trails_more b n w (19 - w) (omega arith) ∙ ap (λ l. l ++ trails b n (w + 1) (19 - w - 1)) here) ∙ stop in
     p.1 ∙ rw p.2 (sym (ap passed whole))
 
@@ -26,10 +26,10 @@ loop-head-preserved c =
     let less : 19 - w - 1 ≡ 19 - (w + 1) = omega arith in
     let more = trails_more b n w (19 - w) (omega arith) in
     elim c.if-head-ne10.branch [
-      | then-head-ne10+in-ok-follow v ↦
+      | then-head-ne10+in_ok-follow v ↦
           let here : cond (eqb w 10) [] (trail_from b n w) ≡ trail_from b n w = cond-false _ _ _ (ne_eqb w 10 v.if-head-ne10.true) in
-          let on = met_on (trail_from b n w) (trails b n (w + 1) (19 - w - 1)) c.loop-head.noted v.follow.new.noted v.in-ok-follow.ensures.value in (
-            ap length v.noted-is ∙ v.in-ok-follow.ensures.room,
+          let on = met_on (trail_from b n w) (trails b n (w + 1) (19 - w - 1)) c.loop-head.noted v.follow.new.noted v.in_ok-follow.ensures.value in (
+            ap length v.noted-is ∙ v.in_ok-follow.ensures.room,
             c.loop-head.invariant.1 ∙ ap (met c.loop-head.noted) (more ∙ ap (λ l. l ++ trails b n (w + 1) (19 - w - 1)) here) ∙ on ∙ ap (λ k. met v.follow.new.noted (trails b n (w + 1) k)) less ∙ ap (λ m. met m (trails b n (w + 1) (19 - (w + 1)))) (sym v.noted-is),
           )
       | else-head-ne10 v ↦

@@ -12,9 +12,9 @@ loop-turn-init c =
     let b = c.args.bytes.now in
     let most : c.args.records ≡ c.args.records - 0 = omega arith in
     let k : c.args.position ≡ c.args.position - 0 = omega arith in (
-      ap (λ i. item (chain b c.args.records c.args.records i) c.args.position) (sym c.index-at-index.ensures.value)
-          ∙ ap (λ m. item (chain b c.args.records m c.index-at-index.result) c.args.position) most ∙ ap (item (chain b c.args.records (c.args.records - 0) c.index-at-index.result)) k,
-      c.index-at-index.ensures.small,
+      ap (λ i. item (chain b c.args.records c.args.records i) c.args.position) (sym c.index_at-index.ensures.value)
+          ∙ ap (λ m. item (chain b c.args.records m c.index_at-index.result) c.args.position) most ∙ ap (item (chain b c.args.records (c.args.records - 0) c.index_at-index.result)) k,
+      c.index_at-index.ensures.small,
     )
 
 pub returns-then-index-eq0 : goal.returns-then-index-eq0
@@ -30,12 +30,12 @@ loop-turn-preserved c =
     let index = is_index_lem n i (omega arith) (omega arith) in
     let m : n - c.loop-turn.-turn - 1 ≡ n - (c.loop-turn.-turn + 1) = omega arith in
     let k : c.args.position - c.loop-turn.-turn - 1 ≡ c.args.position - (c.loop-turn.-turn + 1) = omega arith in
-    let next : pointer b (record_word i) ≡ c.index-at-index-in-loop-turn.result = ap (pointer b) (sym c.record-at.ensures) ∙ sym c.index-at-index-in-loop-turn.ensures.value in (
+    let next : pointer b (record_word i) ≡ c.index_at-index-in-loop-turn.result = ap (pointer b) (sym c.record_at.ensures) ∙ sym c.index_at-index-in-loop-turn.ensures.value in (
       c.loop-turn.invariant.0 ∙ chain_more b n (n - c.loop-turn.-turn) i (c.args.position - c.loop-turn.-turn) most left index
           ∙ ap (λ j. item (chain b n (n - c.loop-turn.-turn - 1) j) (c.args.position - c.loop-turn.-turn - 1)) next
-          ∙ ap (λ x. item (chain b n x c.index-at-index-in-loop-turn.result) (c.args.position - c.loop-turn.-turn - 1)) m
-          ∙ ap (item (chain b n (n - (c.loop-turn.-turn + 1)) c.index-at-index-in-loop-turn.result)) k,
-      c.index-at-index-in-loop-turn.ensures.small,
+          ∙ ap (λ x. item (chain b n x c.index_at-index-in-loop-turn.result) (c.args.position - c.loop-turn.-turn - 1)) m
+          ∙ ap (item (chain b n (n - (c.loop-turn.-turn + 1)) c.index_at-index-in-loop-turn.result)) k,
+      c.index_at-index-in-loop-turn.ensures.small,
     )
 
 pub returns-then-index-eq0-2 : goal.returns-then-index-eq0-2

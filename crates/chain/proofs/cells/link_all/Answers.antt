@@ -13,5 +13,5 @@ loop-i-preserved g c =
       | else-i-n w ↦ (w.next-is ∙ sym (get_or_past (up_to (length c.args.cells.now)) (c.loop-i.i + 1) 0 (omega (arith, length_up_to (length c.args.cells.now), w.if-i-n.false))))
     ] in
     below_more _ _
-    (λ k h. ap (λ t. get_or t k 0) c.set-next.ensures.nexts ∙ get_or-set_other (map (λ x. x.next) c.loop-i.cells) c.loop-i.i k _ 0 (omega arith) ∙ c.loop-i.invariant k h)
-    (ap (λ t. get_or t c.loop-i.i 0) c.set-next.ensures.nexts ∙ get_or-set_same (map (λ x. x.next) c.loop-i.cells) c.loop-i.i _ 0 (omega (arith, length-map c.loop-i.cells (λ x. x.next), c.loop-i.auto.cells)) ∙ nx)
+    (λ k h. ap (λ t. get_or t k 0) c.set_next.ensures.nexts ∙ get_or-set_other (map (λ x. x.next) c.loop-i.cells) c.loop-i.i k _ 0 (omega arith) ∙ c.loop-i.invariant k h)
+    (ap (λ t. get_or t c.loop-i.i 0) c.set_next.ensures.nexts ∙ get_or-set_same (map (λ x. x.next) c.loop-i.cells) c.loop-i.i _ 0 (omega (arith, length-map c.loop-i.cells (λ x. x.next), c.loop-i.auto.cells)) ∙ nx)

@@ -6,4 +6,4 @@ pub returns-then-node-eq0 : goal.returns-then-node-eq0
 returns-then-node-eq0 g c = read_head c.args.heads.now (map (λ x. x.next) c.args.cells.now) c.args.chain c.args.node c.if-node-eq0.true c.requires.chain
 
 pub returns : goal.returns
-returns g c = c.next-of.ensures ∙ read_node c.args.heads.now (map (λ x. x.next) c.args.cells.now) c.args.chain c.args.node (omega arith)
+returns g c = c.next_of.ensures ∙ read_node c.args.heads.now (map (λ x. x.next) c.args.cells.now) c.args.chain c.args.node (omega arith)

@@ -25,18 +25,18 @@ returns-then-cells-gt0 g c =
     let heads = c.clear.new.heads in
     let kept = c.clear.auto.heads in
     let size = length-set c.clear.new.heads 0 1 in
-    let all = made (set c.clear.new.heads 0 1) c.link-all.new.cells (omega arith)
-    (get_or-set_same c.clear.new.heads 0 1 0 (omega arith) ∙ sym (get_d_up_to (length c.link-all.new.cells) 0 (omega arith)))
+    let all = made (set c.clear.new.heads 0 1) c.link_all.new.cells (omega arith)
+    (get_or-set_same c.clear.new.heads 0 1 0 (omega arith) ∙ sym (get_d_up_to (length c.link_all.new.cells) 0 (omega arith)))
     (λ i lo hi. get_or-set_other c.clear.new.heads 0 i 1 0 (omega arith) ∙ c.clear.ensures i (omega arith))
-    c.link-all.ensures in
+    c.link_all.ensures in
     record { sound = all.0; empty = all.1; free = all.2 }
 
 pub returns-else-cells-gt0 : goal.returns-else-cells-gt0
 returns-else-cells-gt0 g c =
     let kept = c.clear.auto.heads in
-    let none : length (up_to (length c.link-all.new.cells)) ≤ 0 = omega (arith, length_up_to (length c.link-all.new.cells)) in
-    let all = made c.clear.new.heads c.link-all.new.cells (omega arith)
-    (c.clear.ensures 0 (omega arith) ∙ sym (get_or_past (up_to (length c.link-all.new.cells)) 0 0 none))
+    let none : length (up_to (length c.link_all.new.cells)) ≤ 0 = omega (arith, length_up_to (length c.link_all.new.cells)) in
+    let all = made c.clear.new.heads c.link_all.new.cells (omega arith)
+    (c.clear.ensures 0 (omega arith) ∙ sym (get_or_past (up_to (length c.link_all.new.cells)) 0 0 none))
     (λ i lo hi. c.clear.ensures i hi)
-    c.link-all.ensures in
+    c.link_all.ensures in
     record { sound = all.0; empty = all.1; free = all.2 }

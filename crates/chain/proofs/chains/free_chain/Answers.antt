@@ -24,8 +24,8 @@ shorter d heads heads' cells cells' chain e h =
     let r = length-remove (elements d heads cells chain) 0 (omega (arith, l)) in
     omega (arith, l, l', r, ap length e)
 
-pub take-after-requires : goal.take-after-requires
-take-after-requires g c =
+pub take_after-requires : goal.take_after-requires
+take_after-requires g c =
     let to : c.args.chain < length c.loop-heads.heads = omega arith in
     record {
       sound = c.loop-heads.invariant.0;
@@ -40,16 +40,16 @@ loop-heads-init g c = (c.requires.sound, λ _ _ _ _ _. refl, refl)
 pub loop-heads-smaller : goal.loop-heads-smaller
 loop-heads-smaller g c =
     let some = has_first c.loop-heads.heads c.loop-heads.cells c.args.chain c.after.result c.loop-heads.invariant.0 (omega arith) c.after.ensures c.loop-heads-test.true in
-    let one = shorter c.take-after.result c.loop-heads.heads c.take-after.new.heads c.loop-heads.cells c.take-after.new.cells c.args.chain (c.take-after.ensures.here 0 c.take-after.result (zero-le, refl) some) some in
+    let one = shorter c.take_after.result c.loop-heads.heads c.take_after.new.heads c.loop-heads.cells c.take_after.new.cells c.args.chain (c.take_after.ensures.here 0 c.take_after.result (zero-le, refl) some) some in
     omega (arith, one)
 
 pub loop-heads-preserved : goal.loop-heads-preserved
 loop-heads-preserved g c =
     let some = has_first c.loop-heads.heads c.loop-heads.cells c.args.chain c.after.result c.loop-heads.invariant.0 (omega arith) c.after.ensures c.loop-heads-test.true in
-    let one = shorter c.take-after.result c.loop-heads.heads c.take-after.new.heads c.loop-heads.cells c.take-after.new.cells c.args.chain (c.take-after.ensures.here 0 c.take-after.result (zero-le, refl) some) some in (
-      c.take-after.ensures.sound,
-      λ i d lo hi ne. c.take-after.ensures.there i d lo (omega arith) ne ∙ c.loop-heads.invariant.1 i d lo hi ne,
-      omega (arith, one, c.take-after.ensures.free, c.loop-heads.invariant.2),
+    let one = shorter c.take_after.result c.loop-heads.heads c.take_after.new.heads c.loop-heads.cells c.take_after.new.cells c.args.chain (c.take_after.ensures.here 0 c.take_after.result (zero-le, refl) some) some in (
+      c.take_after.ensures.sound,
+      λ i d lo hi ne. c.take_after.ensures.there i d lo (omega arith) ne ∙ c.loop-heads.invariant.1 i d lo hi ne,
+      omega (arith, one, c.take_after.ensures.free, c.loop-heads.invariant.2),
     )
 
 pub returns : goal.returns

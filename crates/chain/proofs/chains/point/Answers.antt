@@ -10,6 +10,6 @@ returns-then-node-eq0 g c = record {
 
 pub returns-else-node-eq0 : goal.returns-else-node-eq0
 returns-else-node-eq0 g c = record {
-  pointers = ap (λ n. c.args.heads.now ++ n) c.set-next.ensures.nexts ∙ write_node c.args.heads.now (map (λ x. x.next) c.args.cells.now) c.args.chain c.args.node c.args.target (omega arith);
-  values = c.set-next.ensures.values;
+  pointers = ap (λ n. c.args.heads.now ++ n) c.set_next.ensures.nexts ∙ write_node c.args.heads.now (map (λ x. x.next) c.args.cells.now) c.args.chain c.args.node c.args.target (omega arith);
+  values = c.set_next.ensures.values;
 }

@@ -12,11 +12,11 @@ front n xs ys e = (
 
 pub returns : goal.returns
 returns c =
-    let size : length c.free-all.new.cells ≡ c.args.records = c.free-all.auto.cells ∙ length-take-le c.args.records c.args.cells.now c.requires in
-    let f = front c.args.records c.free-all.new.cells (drop c.args.records c.args.cells.now) size in
+    let size : length c.free_all.new.cells ≡ c.args.records = c.free_all.auto.cells ∙ length-take-le c.args.records c.args.cells.now c.requires in
+    let f = front c.args.records c.free_all.new.cells (drop c.args.records c.args.cells.now) size in
     record {
-      width = c.free-all.auto.heads;
-      sound = subst (λ x. Sound c.free-all.new.heads x) (sym f.0) c.free-all.ensures.sound;
-      empty = λ t a b. ap (λ x. nodes_of c.free-all.new.heads x t) f.0 ∙ c.free-all.ensures.empty t a (omega (arith, c.free-all.auto.heads));
+      width = c.free_all.auto.heads;
+      sound = subst (λ x. Sound c.free_all.new.heads x) (sym f.0) c.free_all.ensures.sound;
+      empty = λ t a b. ap (λ x. nodes_of c.free_all.new.heads x t) f.0 ∙ c.free_all.ensures.empty t a (omega (arith, c.free_all.auto.heads));
       beyond = f.1;
     }

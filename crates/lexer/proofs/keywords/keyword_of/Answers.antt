@@ -3,4 +3,4 @@ use Rattle.lexer.proofs.keywords.keyword_of.Goals as goal
 
 pub returns : goal.returns
 unfolding keywords keyword_of
-returns c = c.first-spelled.ensures
+returns c = c.first_spelled.ensures

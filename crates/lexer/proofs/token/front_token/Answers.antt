@@ -5,22 +5,22 @@ use Rattle.lexer.proofs.Next.{front_class}
 use Rattle.lexer.proofs.token.front_token.Goals as goal
 
 pub returns-in-Letter : goal.returns-in-Letter
-returns-in-Letter c = ap Ok c.word_token_lem.ensures ∙ sym (front_class _ _ Letter c.in-Letter.ensures)
+returns-in-Letter c = ap Ok c.word_token.ensures ∙ sym (front_class _ _ Letter c.in-Letter.ensures)
 
 pub returns-in-Digit : goal.returns-in-Digit
-returns-in-Digit c = c.number-token.ensures ∙ sym (front_class _ _ Digit c.in-Digit.ensures)
+returns-in-Digit c = c.number_token.ensures ∙ sym (front_class _ _ Digit c.in-Digit.ensures)
 
 pub returns-in-Sign : goal.returns-in-Sign
 returns-in-Sign c =
-    ap (λ k. Ok (lexeme (sign k) (take 1 c.args.rest.now) c.args.place)) c.sign-of-sign.ensures
+    ap (λ k. Ok (lexeme (sign k) (take 1 c.args.rest.now) c.args.place)) c.sign_of-sign.ensures
     ∙ sym (front_class _ _ Sign c.in-Sign.ensures)
 
 pub returns-in-Twin : goal.returns-in-Twin
-returns-in-Twin c = c.twin-token.ensures ∙ sym (front_class _ _ Twin c.in-Twin.ensures)
+returns-in-Twin c = c.twin_token.ensures ∙ sym (front_class _ _ Twin c.in-Twin.ensures)
 
 pub returns-in-Blank : goal.returns-in-Blank
 returns-in-Blank c =
     elim c.in-Blank.is [
-      | inl e ↦ sym (front_class _ _ Blank (sym e ∙ c.class-of.ensures))
-      | inr e ↦ sym (front_class _ _ Other (sym e ∙ c.class-of.ensures))
+      | inl e ↦ sym (front_class _ _ Blank (sym e ∙ c.class_of.ensures))
+      | inr e ↦ sym (front_class _ _ Other (sym e ∙ c.class_of.ensures))
     ]

@@ -3,8 +3,8 @@ use Rattle.lexer.specs.Tokens.{lexeme_of}
 use Rattle.lexer.proofs.Found.{front_found, front_size}
 use Rattle.lexer.proofs.token.with_end.Goals as goal
 
-pub overflow-add-result : goal.overflow-add-result
-overflow-add-result c =
+pub overflow_add-result : goal.overflow_add-result
+overflow_add-result c =
     let size = front_size (drop c.args.place c.args.text.now) c.args.place (lexeme_of c.args.token) c.requires in
     let rest = length-drop c.args.place c.args.text.now in
     let same = ap length c.part.ensures.bytes in

@@ -12,13 +12,13 @@ nameless = record { name = record { place = 0; end = 0 }; kind = Integer }
 pub returns-then-same : goal.returns-then-same
 returns-then-same c =
     let more = named_more c.args.text.now c.args.name.now c.args.variables.now c.loop-v.v nameless c.loop-v-test.true in
-    let is = ap (λ s. bytes_eq s c.args.name.now) (sym c.part-of.ensures) ∙ sym c.if-same.ensures in
+    let is = ap (λ s. bytes_eq s c.args.name.now) (sym c.part_of.ensures) ∙ sym c.if-same.ensures in
     sym (sym c.loop-v.invariant ∙ more ∙ cond-true _ _ _ is)
 
 pub loop-v-preserved : goal.loop-v-preserved
 loop-v-preserved c =
     let more = named_more c.args.text.now c.args.name.now c.args.variables.now c.loop-v.v nameless c.loop-v-test.true in
-    let is = ap (λ s. bytes_eq s c.args.name.now) (sym c.part-of.ensures) ∙ sym c.if-same.ensures in
+    let is = ap (λ s. bytes_eq s c.args.name.now) (sym c.part_of.ensures) ∙ sym c.if-same.ensures in
     sym (sym c.loop-v.invariant ∙ more ∙ cond-false _ _ _ is)
 
 pub returns : goal.returns

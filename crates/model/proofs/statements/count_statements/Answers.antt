@@ -3,7 +3,7 @@ use Rattle.std.proofs.lemmas.Bool.{cond-true, cond-false}
 use Rattle.model.specs.declared.program.Line.TheVariants.{Assign}
 use Rattle.model.specs.Lines.{statements}
 use Rattle.model.proofs.Counting.{statements_more, statements_all}
-use Rattle.model.proofs.statements.count_statements.Goals.{then-is-statement, else-is-statement}
+use Rattle.model.proofs.statements.count_statements.Goals.{then-is_statement, else-is_statement}
 use Rattle.model.proofs.statements.count_statements.Goals as goal
 
 pub loop-line-preserved : goal.loop-line-preserved
@@ -11,14 +11,14 @@ loop-line-preserved c =
     let more = statements_more c.args.lines.now c.loop-line.line-index (Assign 0 0) c.loop-line-test.true in
     let so = c.loop-line.invariant.0 in
     let few = c.loop-line.invariant.1 in
-    elim c.if-is-statement.branch [
-      | then-is-statement w ↦ (
-          let one = more ∙ cond-true _ _ _ (sym c.is-statement.ensures ∙ w.if-is-statement.true) in
+    elim c.if-is_statement.branch [
+      | then-is_statement w ↦ (
+          let one = more ∙ cond-true _ _ _ (sym c.is_statement.ensures ∙ w.if-is_statement.true) in
           let is = w.count-is in
           (omega (arith, so, one, is), omega (arith, few, is))
           )
-      | else-is-statement w ↦ (
-          let none = more ∙ cond-false _ _ _ (sym c.is-statement.ensures ∙ w.if-is-statement.false) in
+      | else-is_statement w ↦ (
+          let none = more ∙ cond-false _ _ _ (sym c.is_statement.ensures ∙ w.if-is_statement.false) in
           let is = w.count-is in
           (omega (arith, so, none, is), omega (arith, few, is))
           )

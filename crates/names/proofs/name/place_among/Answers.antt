@@ -7,19 +7,19 @@ use Rattle.names.proofs.name.place_among.Goals as goal
 pub loop-i-init : goal.loop-i-init
 loop-i-init c = refl
 
-pub returns-then-is-same : goal.returns-then-is-same
-returns-then-is-same c =
+pub returns-then-is_same : goal.returns-then-is_same
+returns-then-is_same c =
     let text = c.args.text.now in
     let i = c.loop-i.i in
     let step = at_drop_more (λ ns. place_from text i ns c.args.name) c.args.names.now i no_name c.loop-i-test.true in
-    record { value = sym (sym c.loop-i.invariant ∙ step ∙ cond-true _ _ _ (sym c.if-is-same.ensures)); within = c.loop-i-test.true }
+    record { value = sym (sym c.loop-i.invariant ∙ step ∙ cond-true _ _ _ (sym c.if-is_same.ensures)); within = c.loop-i-test.true }
 
 pub loop-i-preserved : goal.loop-i-preserved
 loop-i-preserved c =
     let text = c.args.text.now in
     let i = c.loop-i.i in
     let step = at_drop_more (λ ns. place_from text i ns c.args.name) c.args.names.now i no_name c.loop-i-test.true in
-    sym (sym c.loop-i.invariant ∙ step ∙ cond-false _ _ _ (sym c.if-is-same.ensures))
+    sym (sym c.loop-i.invariant ∙ step ∙ cond-false _ _ _ (sym c.if-is_same.ensures))
 
 pub returns : goal.returns
 returns c =

@@ -9,7 +9,7 @@ loop-part-preserved c =
     let text = c.args.text.now in
     let parts = c.args.parts.now in
     let i = c.loop-part.part-index in
-    ap (λ d. declared_from text d (drop (i + 1) parts)) c.in-ok-declare.ensures
+    ap (λ d. declared_from text d (drop (i + 1) parts)) c.in_ok-declare.ensures
     ∙ sym (at_drop_more (declared_from text (decl_of c.loop-part.tables)) parts i no_part c.loop-part-test.true)
     ∙ c.loop-part.invariant
 

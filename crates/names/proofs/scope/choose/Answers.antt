@@ -5,10 +5,10 @@ use Rattle.names.specs.Schema.{decl_of, no_part}
 use Rattle.names.specs.Scopes.{picked_from}
 use Rattle.names.proofs.scope.choose.Goals as goal
 
-pub returns-then-is-from : goal.returns-then-is-from
-returns-then-is-from c =
+pub returns-then-is_from : goal.returns-then-is_from
+returns-then-is_from c =
     let step = at_drop_more (picked_from c.args.text.now (decl_of c.args.tables.now) c.loop-part.choice) c.args.behind.now c.loop-part.part-index no_part c.loop-part-test.true in
-    sym (sym c.loop-part.invariant ∙ step ∙ cond-true _ _ _ (sym c.if-is-from.ensures))
+    sym (sym c.loop-part.invariant ∙ step ∙ cond-true _ _ _ (sym c.if-is_from.ensures))
 
 pub loop-part-preserved : goal.loop-part-preserved
 loop-part-preserved c =
@@ -16,8 +16,8 @@ loop-part-preserved c =
     let d = decl_of c.args.tables.now in
     let i = c.loop-part.part-index in
     let step = at_drop_more (picked_from text d c.loop-part.choice) c.args.behind.now i no_part c.loop-part-test.true in
-    let on = sym c.loop-part.invariant ∙ step ∙ cond-false _ _ _ (sym c.if-is-from.ensures) in
-    ap (λ x. picked_from text d x (drop (i + 1) c.args.behind.now)) c.pick-by-choice.ensures ∙ sym on
+    let on = sym c.loop-part.invariant ∙ step ∙ cond-false _ _ _ (sym c.if-is_from.ensures) in
+    ap (λ x. picked_from text d x (drop (i + 1) c.args.behind.now)) c.pick_by-choice.ensures ∙ sym on
 
 pub returns : goal.returns
 returns c =

@@ -29,5 +29,5 @@ returns c =
     let z : get_or s 0 0 ≡ 48 → ⊥ = λ e. c.if-rest-eq48.false (ap (λ l. get_or l 0 0) rest ∙ e) in
     let more : 0 < k = omega arith in
     let zero-off : k - 0 ≡ k = omega arith in
-    let held : c.held-number.result ≡ held_number (value_of (take k s)) = c.held-number.ensures ∙ ap (λ l. held_number (value_of l)) (ap (take (k - 0)) rest ∙ ap (λ n. take n s) zero-off) in
+    let held : c.held_number.result ≡ held_number (value_of (take k s)) = c.held_number.ensures ∙ ap (λ l. held_number (value_of l)) (ap (take (k - 0)) rest ∙ ap (λ n. take n s) zero-off) in
     ap (λ v. Ok (v, c.args.at + k)) held ∙ sym (by_count s c.args.at k count ∙ more_first s c.args.at k more z)

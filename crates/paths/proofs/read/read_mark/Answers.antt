@@ -33,41 +33,41 @@ returns-in-W c = sym (read_at c.args.line.now c.args.at 87 (omega arith) (sym c.
 pub returns-in-K : goal.returns-in-K
 returns-in-K c = sym (read_at c.args.line.now c.args.at 75 (omega arith) (sym c.in-K.is ∙ c.from.ensures))
 
-pub returns-in-err-number : goal.returns-in-err-number
-returns-in-err-number c =
-    let p = err_from_is_err_and c.from-residual.result c.from-residual.ensures.1 in
+pub returns-in_err-number : goal.returns-in_err-number
+returns-in_err-number c =
+    let p = err_from_is_err_and c.from_residual.result c.from_residual.ensures.1 in
     let lt : c.args.at < length c.args.line.now = omega arith in
-    p.1 ∙ rw p.2 (ap (with_number F) c.in-err-number.ensures ∙ sym (read_at c.args.line.now c.args.at 70 lt (sym c.in-F.is ∙ c.from.ensures)))
+    p.1 ∙ rw p.2 (ap (with_number F) c.in_err-number.ensures ∙ sym (read_at c.args.line.now c.args.at 70 lt (sym c.in-F.is ∙ c.from.ensures)))
 
-pub returns-in-ok-number : goal.returns-in-ok-number
-returns-in-ok-number c =
+pub returns-in_ok-number : goal.returns-in_ok-number
+returns-in_ok-number c =
     let lt : c.args.at < length c.args.line.now = omega arith in
-    ap (with_number F) c.in-ok-number.ensures ∙ sym (read_at c.args.line.now c.args.at 70 lt (sym c.in-F.is ∙ c.from.ensures))
+    ap (with_number F) c.in_ok-number.ensures ∙ sym (read_at c.args.line.now c.args.at 70 lt (sym c.in-F.is ∙ c.from.ensures))
 
-pub returns-in-err-number-2 : goal.returns-in-err-number-2
-returns-in-err-number-2 c =
-    let p = err_from_is_err_and c.from-residual-in-err-number-2.result c.from-residual-in-err-number-2.ensures.1 in
+pub returns-in_err-number-2 : goal.returns-in_err-number-2
+returns-in_err-number-2 c =
+    let p = err_from_is_err_and c.from_residual-in_err-number-2.result c.from_residual-in_err-number-2.ensures.1 in
     let lt : c.args.at < length c.args.line.now = omega arith in
-    p.1 ∙ rw p.2 (ap (with_number C) c.in-err-number-2.ensures ∙ sym (read_at c.args.line.now c.args.at 67 lt (sym c.in-C.is ∙ c.from.ensures)))
+    p.1 ∙ rw p.2 (ap (with_number C) c.in_err-number-2.ensures ∙ sym (read_at c.args.line.now c.args.at 67 lt (sym c.in-C.is ∙ c.from.ensures)))
 
-pub returns-in-ok-number-2 : goal.returns-in-ok-number-2
-returns-in-ok-number-2 c =
+pub returns-in_ok-number-2 : goal.returns-in_ok-number-2
+returns-in_ok-number-2 c =
     let lt : c.args.at < length c.args.line.now = omega arith in
-    ap (with_number C) c.in-ok-number-2.ensures ∙ sym (read_at c.args.line.now c.args.at 67 lt (sym c.in-C.is ∙ c.from.ensures))
+    ap (with_number C) c.in_ok-number-2.ensures ∙ sym (read_at c.args.line.now c.args.at 67 lt (sym c.in-C.is ∙ c.from.ensures))
 
-pub returns-in-err-number-3 : goal.returns-in-err-number-3
-returns-in-err-number-3 c =
-    let p = err_from_is_err_and c.from-residual-in-err-number-3.result c.from-residual-in-err-number-3.ensures.1 in
+pub returns-in_err-number-3 : goal.returns-in_err-number-3
+returns-in_err-number-3 c =
+    let p = err_from_is_err_and c.from_residual-in_err-number-3.result c.from_residual-in_err-number-3.ensures.1 in
     let lt : c.args.at < length c.args.line.now = omega arith in
-    p.1 ∙ rw p.2 (ap (with_number D) c.in-err-number-3.ensures ∙ sym (read_at c.args.line.now c.args.at 68 lt (sym c.in-D.is ∙ c.from.ensures)))
+    p.1 ∙ rw p.2 (ap (with_number D) c.in_err-number-3.ensures ∙ sym (read_at c.args.line.now c.args.at 68 lt (sym c.in-D.is ∙ c.from.ensures)))
 
-pub returns-in-ok-number-3 : goal.returns-in-ok-number-3
-returns-in-ok-number-3 c =
+pub returns-in_ok-number-3 : goal.returns-in_ok-number-3
+returns-in_ok-number-3 c =
     let lt : c.args.at < length c.args.line.now = omega arith in
-    ap (with_number D) c.in-ok-number-3.ensures ∙ sym (read_at c.args.line.now c.args.at 68 lt (sym c.in-D.is ∙ c.from.ensures))
+    ap (with_number D) c.in_ok-number-3.ensures ∙ sym (read_at c.args.line.now c.args.at 68 lt (sym c.in-D.is ∙ c.from.ensures))
 
-pub returns-in-default : goal.returns-in-default
-returns-in-default c =
+pub returns-in_default : goal.returns-in_default
+returns-in_default c =
     let lt : c.args.at < length c.args.line.now = omega arith in
     let other : letter_by c.from.result ≡ none = search rules in
     sym (read_at c.args.line.now c.args.at c.from.result lt c.from.ensures ∙ ap (λ o. mark_by o (drop (c.args.at + 1) c.args.line.now) c.args.at) other)

@@ -6,20 +6,20 @@ use Rattle.paths.specs.Answers.{LineAnswers, marks_read}
 use Rattle.paths.proofs.Laws.{line_part, read_back, read_again}
 use Rattle.paths.proofs.read.read_path.Goals as goal
 
-pub returns-then-is-empty : goal.returns-then-is-empty
-returns-then-is-empty c =
+pub returns-then-is_empty : goal.returns-then-is_empty
+returns-then-is_empty c =
     let text = c.args.text.now in
-    let part = line_part text c.line-length.result c.line-length.ensures.value in
-    let none = nil_from_length (line_of text) (ap length (sym part) ∙ eqb-true _ 0 (sym c.if-is-empty.ensures)) in
+    let part = line_part text c.line_length.result c.line_length.ensures.value in
+    let none = nil_from_length (line_of text) (ap length (sym part) ∙ eqb-true _ 0 (sym c.if-is_empty.ensures)) in
     let told : LineAnswers (line_of text) (Ok (vec_items c.new.result)) = ([], (omega arith, none), c.new.ensures.items) in
     record { answer = told; back = read_back text (Ok (vec_items c.new.result)) told; again = read_again text (Ok (vec_items c.new.result)) told }
 
-pub read-line-requires : goal.read-line-requires
-read-line-requires c = let some = eqb-false _ 0 (sym c.if-is-empty.ensures) in omega arith
+pub read_line-requires : goal.read_line-requires
+read_line-requires c = let some = eqb-false _ 0 (sym c.if-is_empty.ensures) in omega arith
 
 pub returns : goal.returns
 returns c =
     let text = c.args.text.now in
-    let part = line_part text c.line-length.result c.line-length.ensures.value in
-    let told = subst (λ l. LineAnswers l (marks_read c.read-line.result)) part c.read-line.ensures in
-    record { answer = told; back = read_back text (marks_read c.read-line.result) told; again = read_again text (marks_read c.read-line.result) told }
+    let part = line_part text c.line_length.result c.line_length.ensures.value in
+    let told = subst (λ l. LineAnswers l (marks_read c.read_line.result)) part c.read_line.ensures in
+    record { answer = told; back = read_back text (marks_read c.read_line.result) told; again = read_again text (marks_read c.read_line.result) told }

@@ -14,8 +14,8 @@ loop-p-smaller c = let o = pulled_onward c.args.text.now c.loop-p.at c.in-Ok.p (
 
 pub loop-p-preserved : goal.loop-p-preserved
 loop-p-preserved c =
-    subst (λ ps. Left c.args.text.now c.args.upto c.in-Ok.p.end ps) (sym c.in-ok-push.ensures.items)
+    subst (λ ps. Left c.args.text.now c.args.upto c.in-Ok.p.end ps) (sym c.in_ok-push.ensures.items)
     (left_more c.args.text.now c.args.upto c.loop-p.at (vec_items c.loop-p.found) c.in-Ok.p c.loop-p.invariant (sym c.in-Ok.ensures) (lt-ltb c.in-Ok.p.place c.args.upto (omega arith)))
 
 pub returns : goal.returns
-returns c = left_ended c.args.text.now c.args.upto c.loop-p.at (vec_items c.loop-p.found) c.in-default.field-0 c.loop-p.invariant (sym c.in-default.ensures)
+returns c = left_ended c.args.text.now c.args.upto c.loop-p.at (vec_items c.loop-p.found) c.in_default.field-0 c.loop-p.invariant (sym c.in_default.ensures)

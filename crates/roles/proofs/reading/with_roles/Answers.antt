@@ -14,9 +14,9 @@ loop-i-preserved c =
     let none : Pulled = record { word = Name; place = 0; end = 0 } in
     let w = (get_or ps i none).word in
     let behind = ap words (take_rest ps (i + 1)) in
-    let role = c.role-of.ensures ∙ ap (role_of m w) behind in
+    let role = c.role_of.ensures ∙ ap (role_of m w) behind in
     let next = c.onward-mode.ensures ∙ ap (onward m w) behind in
-    given_more (vec_items c.loop-i.parts) (vec_items c.push.new.self) (with_roles ps) m c.onward-mode.result c.role-of.result c.part-of.result ps i none c.loop-i-test.true c.in-ok-push.ensures.items c.part-of.ensures role next c.loop-i.invariant
+    given_more (vec_items c.loop-i.parts) (vec_items c.push.new.self) (with_roles ps) m c.onward-mode.result c.role_of.result c.part_of.result ps i none c.loop-i-test.true c.in_ok-push.ensures.items c.part_of.ensures role next c.loop-i.invariant
 
 pub returns : goal.returns
 returns c = given_all (vec_items c.loop-i.parts) (with_roles c.args.found.now) c.loop-i.mode c.args.found.now c.loop-i.i c.loop-i-test.false c.loop-i.invariant

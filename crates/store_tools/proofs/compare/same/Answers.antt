@@ -4,8 +4,8 @@ use Rattle.store_tools.proofs.compare.same.Goals as goal
 
 pub loop-table-preserved : goal.loop-table-preserved
 loop-table-preserved g c = (
-  same_more (g.A.Store.meaning c.args.a.now) (g.B.Store.meaning c.args.b.now) c.loop-table.table c.loop-table.invariant.0 (c.if-not-same-table.ensures.decides.0 refl),
-  λ _. (c.same-table.ensures.first.outside, c.same-table.ensures.second.outside),
+  same_more (g.A.Store.meaning c.args.a.now) (g.B.Store.meaning c.args.b.now) c.loop-table.table c.loop-table.invariant.0 (c.if-not-same_table.ensures.decides.0 refl),
+  λ _. (c.same_table.ensures.first.outside, c.same_table.ensures.second.outside),
 )
 
 pub returns : goal.returns

@@ -8,18 +8,18 @@ loop-i-preserved g c =
     let ra = (g.A.Store.meaning c.args.a.now).tables c.args.table in
     let rb = (g.B.Store.meaning c.args.b.now).tables c.args.table in
     let e : get_or ((g.A.Store.meaning c.args.a.now).tables c.args.table) c.loop-i.i no_entry ≡ get_or ((g.B.Store.meaning c.args.b.now).tables c.args.table) c.loop-i.i no_entry =
-    sym c.entry-of.ensures ∙ c.if-not-same-entry.ensures.0 refl ∙ c.entry-of-in-loop-i.ensures in
-    take_more ra c.loop-i.i no_entry (omega (arith, c.rows-of-rows.ensures.count))
+    sym c.entry_of.ensures ∙ c.if-not-same_entry.ensures.0 refl ∙ c.entry_of-in-loop-i.ensures in
+    take_more ra c.loop-i.i no_entry (omega (arith, c.rows_of-rows.ensures.count))
     ∙ ap (λ t. t ++ get_or ((g.A.Store.meaning c.args.a.now).tables c.args.table) c.loop-i.i no_entry ∷ []) c.loop-i.invariant
     ∙ ap (λ x. take c.loop-i.i ((g.B.Store.meaning c.args.b.now).tables c.args.table) ++ x ∷ []) e
-    ∙ sym (take_more rb c.loop-i.i no_entry (omega (arith, c.rows-of-rows.ensures.count, c.rows-of.ensures.count)))
+    ∙ sym (take_more rb c.loop-i.i no_entry (omega (arith, c.rows_of-rows.ensures.count, c.rows_of.ensures.count)))
 
 pub returns : goal.returns
 returns g c =
     let ra = (g.A.Store.meaning c.args.a.now).tables c.args.table in
     let rb = (g.B.Store.meaning c.args.b.now).tables c.args.table in
     record {
-      decides = ((λ _. sym (take_all c.loop-i.i ra (omega (arith, c.rows-of-rows.ensures.count))) ∙ c.loop-i.invariant ∙ take_all c.loop-i.i rb (omega (arith, c.rows-of-rows.ensures.count, c.rows-of.ensures.count))), λ _. refl);
-      first = c.rows-of-rows.ensures.lawful;
-      second = c.rows-of.ensures.lawful;
+      decides = ((λ _. sym (take_all c.loop-i.i ra (omega (arith, c.rows_of-rows.ensures.count))) ∙ c.loop-i.invariant ∙ take_all c.loop-i.i rb (omega (arith, c.rows_of-rows.ensures.count, c.rows_of.ensures.count))), λ _. refl);
+      first = c.rows_of-rows.ensures.lawful;
+      second = c.rows_of.ensures.lawful;
     }

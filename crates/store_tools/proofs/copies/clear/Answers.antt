@@ -4,14 +4,14 @@ use Rattle.store.proofs.Calls.{is_table_lem}
 use Rattle.store_tools.proofs.Tables.{up_more, up_all, up_outside}
 use Rattle.store_tools.proofs.copies.clear.Goals as goal
 
-pub clear-table-requires : goal.clear-table-requires
-clear-table-requires g c = is_table_lem c.loop-table.table c.loop-table.auto.table c.loop-table-test.true
+pub clear_table-requires : goal.clear_table-requires
+clear_table-requires g c = is_table_lem c.loop-table.table c.loop-table.auto.table c.loop-table-test.true
 
 pub loop-table-preserved : goal.loop-table-preserved
 loop-table-preserved g c = (
-  c.clear-table.ensures.after ∙ ap (λ m. updated m c.loop-table.table []) c.loop-table.invariant.0
+  c.clear_table.ensures.after ∙ ap (λ m. updated m c.loop-table.table []) c.loop-table.invariant.0
       ∙ up_more c.loop-table.table (λ _. []) (g.S.Store.meaning c.args.store.now) (is_table_lem c.loop-table.table c.loop-table.auto.table c.loop-table-test.true),
-  λ _ u e. sym (ap (λ m. m.tables u) c.loop-table.invariant.0 ∙ up_outside c.loop-table.table (λ _. []) (g.S.Store.meaning c.args.store.now) u e) ∙ c.clear-table.ensures.lawful.outside u e,
+  λ _ u e. sym (ap (λ m. m.tables u) c.loop-table.invariant.0 ∙ up_outside c.loop-table.table (λ _. []) (g.S.Store.meaning c.args.store.now) u e) ∙ c.clear_table.ensures.lawful.outside u e,
 )
 
 pub returns : goal.returns

@@ -4,8 +4,8 @@ use Rattle.store.proofs.Calls.{is_table_lem}
 use Rattle.store_tools.proofs.Tables.{up_more, up_all, up_here}
 use Rattle.store_tools.proofs.copies.copy_tables.Goals as goal
 
-pub copy-table-requires : goal.copy-table-requires
-copy-table-requires g c = record {
+pub copy_table-requires : goal.copy_table-requires
+copy_table-requires g c = record {
   table = is_table_lem c.loop-table.table c.loop-table.auto.table c.loop-table-test.true;
   limit = ap (λ m. m.limit) c.loop-table.invariant.0 ∙ ap (λ m. m.limit) c.requires;
   empty = ap (λ m. m.tables c.loop-table.table) c.loop-table.invariant.0
@@ -15,9 +15,9 @@ copy-table-requires g c = record {
 
 pub loop-table-preserved : goal.loop-table-preserved
 loop-table-preserved g c = (
-  c.copy-table.ensures.after ∙ ap (λ m. updated m c.loop-table.table ((g.A.Store.meaning c.args.from.now).tables c.loop-table.table)) c.loop-table.invariant.0
+  c.copy_table.ensures.after ∙ ap (λ m. updated m c.loop-table.table ((g.A.Store.meaning c.args.from.now).tables c.loop-table.table)) c.loop-table.invariant.0
       ∙ up_more c.loop-table.table (g.A.Store.meaning c.args.from.now).tables (g.B.Store.meaning c.args.to.now) (is_table_lem c.loop-table.table c.loop-table.auto.table c.loop-table-test.true),
-  λ _ u e. c.copy-table.ensures.lawful.outside u e,
+  λ _ u e. c.copy_table.ensures.lawful.outside u e,
 )
 
 pub returns : goal.returns

@@ -20,27 +20,27 @@ key_read m t i k f e = to_z-of_z w32 k f ∙ key_from m t i k e
 pub loop-i-preserved : goal.loop-i-preserved
 loop-i-preserved g c =
     let m = g.S.Store.meaning c.args.store.now in
-    let n = count_from m c.args.table c.in-ok-rows.rows c.in-ok-rows.ensures.answer in
-    let f : SFits w32 c.in-ok-found.found = search rules in
-    let r = key_read m c.args.table c.loop-i.i c.in-ok-found.found f c.in-ok-found.ensures in
+    let n = count_from m c.args.table c.in_ok-rows.rows c.in_ok-rows.ensures.answer in
+    let f : SFits w32 c.in_ok-found.found = search rules in
+    let r = key_read m c.args.table c.loop-i.i c.in_ok-found.found f c.in_ok-found.ensures in
     passed_more (to_z w32 (of_z w32 c.args.key)) (m.tables c.args.table) c.loop-i.i no_entry (omega (arith, n.1)) c.loop-i.invariant
     (subst (λ z. z <ℤ to_z w32 (of_z w32 c.args.key)) r c.in-Less.ensures)
 
 pub returns-in-Equal : goal.returns-in-Equal
 returns-in-Equal g c =
     let m = g.S.Store.meaning c.args.store.now in
-    let n = count_from m c.args.table c.in-ok-rows.rows c.in-ok-rows.ensures.answer in
-    let f : SFits w32 c.in-ok-found.found = search rules in
-    let r = key_read m c.args.table c.loop-i.i c.in-ok-found.found f c.in-ok-found.ensures in
+    let n = count_from m c.args.table c.in_ok-rows.rows c.in_ok-rows.ensures.answer in
+    let f : SFits w32 c.in_ok-found.found = search rules in
+    let r = key_read m c.args.table c.loop-i.i c.in_ok-found.found f c.in_ok-found.ensures in
     yes_there m c.args.table c.loop-i.i c.args.key (to_z w32 (of_z w32 c.args.key)) (to_z-of_z w32 c.args.key c.ranges.key) n.0
     (found_at (to_z w32 (of_z w32 c.args.key)) (m.tables c.args.table) c.loop-i.i no_entry (omega (arith, n.1)) c.loop-i.invariant (sym r ∙ c.in-Equal.ensures))
 
 pub returns-in-Greater : goal.returns-in-Greater
 returns-in-Greater g c =
     let m = g.S.Store.meaning c.args.store.now in
-    let n = count_from m c.args.table c.in-ok-rows.rows c.in-ok-rows.ensures.answer in
-    let f : SFits w32 c.in-ok-found.found = search rules in
-    let r = key_read m c.args.table c.loop-i.i c.in-ok-found.found f c.in-ok-found.ensures in
+    let n = count_from m c.args.table c.in_ok-rows.rows c.in_ok-rows.ensures.answer in
+    let f : SFits w32 c.in_ok-found.found = search rules in
+    let r = key_read m c.args.table c.loop-i.i c.in_ok-found.found f c.in_ok-found.ensures in
     not_there m c.args.table c.args.key (to_z w32 (of_z w32 c.args.key)) (to_z-of_z w32 c.args.key c.ranges.key) n.0
     (missed_at (to_z w32 (of_z w32 c.args.key)) (m.tables c.args.table) c.loop-i.i no_entry (omega (arith, n.1)) c.loop-i.invariant
     (subst (λ z. to_z w32 (of_z w32 c.args.key) <ℤ z) r c.in-Greater.ensures)).0
@@ -48,6 +48,6 @@ returns-in-Greater g c =
 pub returns : goal.returns
 returns g c =
     let m = g.S.Store.meaning c.args.store.now in
-    let n = count_from m c.args.table c.in-ok-rows.rows c.in-ok-rows.ensures.answer in
+    let n = count_from m c.args.table c.in_ok-rows.rows c.in_ok-rows.ensures.answer in
     not_there m c.args.table c.args.key (to_z w32 (of_z w32 c.args.key)) (to_z-of_z w32 c.args.key c.ranges.key) n.0
     (passed_all (to_z w32 (of_z w32 c.args.key)) (m.tables c.args.table) c.loop-i.i (omega (arith, n.1)) c.loop-i.invariant).0

@@ -10,6 +10,6 @@ front_more rows out i d h l = same_lists _ _ (search (rules, places)) (λ k e q.
 
 pub loop-i-preserved : goal.loop-i-preserved
 loop-i-preserved g c =
-    ap (λ o. set o c.loop-i.i c.entry-of.result) c.loop-i.invariant
-    ∙ ap (set (take c.loop-i.i ((g.S.Store.meaning c.args.store.now).tables c.args.table) ++ drop c.loop-i.i c.args.out.now) c.loop-i.i) c.entry-of.ensures
+    ap (λ o. set o c.loop-i.i c.entry_of.result) c.loop-i.invariant
+    ∙ ap (set (take c.loop-i.i ((g.S.Store.meaning c.args.store.now).tables c.args.table) ++ drop c.loop-i.i c.args.out.now) c.loop-i.i) c.entry_of.ensures
     ∙ front_more ((g.S.Store.meaning c.args.store.now).tables c.args.table) c.args.out.now c.loop-i.i no_entry (omega (arith, c.requires.rows)) (omega (arith, c.requires.room))

@@ -5,7 +5,7 @@ use Rattle.syntax.proofs.whole.check_form.Goals as goal
 pub returns : goal.returns
 returns c =
     let text = c.args.text.now in
-    let value = c.read-model.ensures in
+    let value = c.read_model.ensures in
     record {
       value = value;
       accepts = λ h. accepts text (sym value ∙ h);

@@ -1,14 +1,14 @@
 use Rattle.std.proofs.Common.{◌+◌, ◌*◌}
 use Rattle.terms.proofs.terms.+binary_rest_bracket_read_term_unary_rest.Given as goal
 
-abbrev pub decreases-binary-rest : goal.decreases-binary-rest
-decreases-binary-rest l = 3 * l.depth + 1
+abbrev pub decreases-binary_rest : goal.decreases-binary_rest
+decreases-binary_rest l = 3 * l.depth + 1
 
 abbrev pub decreases-bracket : goal.decreases-bracket
 decreases-bracket l = 3 * l.depth + 2
 
-abbrev pub decreases-read-term : goal.decreases-read-term
-decreases-read-term l = 3 * l.depth
+abbrev pub decreases-read_term : goal.decreases-read_term
+decreases-read_term l = 3 * l.depth
 
-abbrev pub decreases-unary-rest : goal.decreases-unary-rest
-decreases-unary-rest l = 3 * l.depth + 1
+abbrev pub decreases-unary_rest : goal.decreases-unary_rest
+decreases-unary_rest l = 3 * l.depth + 1

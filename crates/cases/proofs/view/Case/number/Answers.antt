@@ -11,5 +11,5 @@ returns-in-None c = number_none c.args.self.now.bytes.now c.args.self.now.record
 pub returns-in-Some : goal.returns-in-Some
 returns-in-Some c =
     let b = c.args.self.now.bytes.now in
-    let z : to_z w32 (of_z w32 c.word-at.result) ≡ first_value b c.in-Some.index = to_z-of_z w32 c.word-at.result (search rules) ∙ c.word-at.ensures ∙ ap (λ v. word b (v + 1)) c.record-at.ensures in
+    let z : to_z w32 (of_z w32 c.word_at.result) ≡ first_value b c.in-Some.index = to_z-of_z w32 c.word_at.result (search rules) ∙ c.word_at.ensures ∙ ap (λ v. word b (v + 1)) c.record_at.ensures in
     ap Some z ∙ number_some b c.args.self.now.records c.args.head c.args.position c.in-Some.index c.in-Some.ensures.value

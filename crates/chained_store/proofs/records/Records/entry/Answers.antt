@@ -14,4 +14,4 @@ by_rows heads cells t p None h = omega (arith, length_rows heads cells t)
 by_rows heads cells t p (Some e) (h, is) = (omega (arith, length_rows heads cells t), is no_entry)
 
 pub returns : goal.returns
-returns c = by_rows c.args.self.now.heads c.args.self.now.cells.now c.args.table c.args.position c.element-at.result c.element-at.ensures
+returns c = by_rows c.args.self.now.heads c.args.self.now.cells.now c.args.table c.args.position c.element_at.result c.element_at.ensures

@@ -7,20 +7,20 @@ use Rattle.chained_store.specs.Tables.{rows_of}
 use Rattle.chained_store.proofs.Boards.{fields}
 use Rattle.chained_store.proofs.store.ChainedStore.new.Goals as goal
 
-pub overflow-mul-records : goal.overflow-mul-records
-overflow-mul-records c = let l = limit_from c.args.limit c.requires.limit in search rules
+pub overflow_mul-records : goal.overflow_mul-records
+overflow_mul-records c = let l = limit_from c.args.limit c.requires.limit in search rules
 
-pub invariant-of-result : goal.invariant-of-result
-invariant-of-result c =
-    fields c.args.limit c.free-records-heads.result (take (8 * c.args.limit) c.free-records-heads.new.cells) c.free-records-heads.ensures.sound
-    (length-take-le (8 * c.args.limit) c.free-records-heads.new.cells (omega (arith, c.requires.room, c.free-records-heads.auto.cells)))
-    c.free-records-heads.ensures.width
-    (kept_none c.args.limit (rows_of c.free-records-heads.result (take (8 * c.args.limit) c.free-records-heads.new.cells)) c.requires.limit
-    (λ t a b. ap (λ is. map (λ i. get_or (map (λ x. x.value) (take (8 * c.args.limit) c.free-records-heads.new.cells)) (i - 1) no_entry) is) (c.free-records-heads.ensures.empty t a (omega arith))))
+pub invariant_of-result : goal.invariant_of-result
+invariant_of-result c =
+    fields c.args.limit c.free_records-heads.result (take (8 * c.args.limit) c.free_records-heads.new.cells) c.free_records-heads.ensures.sound
+    (length-take-le (8 * c.args.limit) c.free_records-heads.new.cells (omega (arith, c.requires.room, c.free_records-heads.auto.cells)))
+    c.free_records-heads.ensures.width
+    (kept_none c.args.limit (rows_of c.free_records-heads.result (take (8 * c.args.limit) c.free_records-heads.new.cells)) c.requires.limit
+    (λ t a b. ap (λ is. map (λ i. get_or (map (λ x. x.value) (take (8 * c.args.limit) c.free_records-heads.new.cells)) (i - 1) no_entry) is) (c.free_records-heads.ensures.empty t a (omega arith))))
 
 pub returns : goal.returns
 returns c = record {
-  meaning = storing_none c.args.limit (rows_of c.free-records-heads.result (take (8 * c.args.limit) c.free-records-heads.new.cells))
-      (λ t a b. ap (λ is. map (λ i. get_or (map (λ x. x.value) (take (8 * c.args.limit) c.free-records-heads.new.cells)) (i - 1) no_entry) is) (c.free-records-heads.ensures.empty t a (omega arith)));
-  memory = length-take-le (8 * c.args.limit) c.free-records-heads.new.cells (omega (arith, c.requires.room, c.free-records-heads.auto.cells));
+  meaning = storing_none c.args.limit (rows_of c.free_records-heads.result (take (8 * c.args.limit) c.free_records-heads.new.cells))
+      (λ t a b. ap (λ is. map (λ i. get_or (map (λ x. x.value) (take (8 * c.args.limit) c.free_records-heads.new.cells)) (i - 1) no_entry) is) (c.free_records-heads.ensures.empty t a (omega arith)));
+  memory = length-take-le (8 * c.args.limit) c.free_records-heads.new.cells (omega (arith, c.requires.room, c.free_records-heads.auto.cells));
 }

@@ -32,8 +32,8 @@ returns-else-rows-self c =
     ∙ ap (λ k. insert (rows_of c.args.self.now.raw.heads c.args.self.now.raw.cells.now c.args.table) (rank c.args.key (rows_of c.args.self.now.raw.heads c.args.self.now.raw.cells.now c.args.table)) (record { key = k; row = c.args.row })) (to_z-of_z w32 c.args.key c.ranges.key)) in
     record { answer = p.0; after = p.1 }
 
-pub invariant-of-self : goal.invariant-of-self
-invariant-of-self c =
+pub invariant_of-self : goal.invariant_of-self
+invariant_of-self c =
     let f = missed c.args.key (nodes_of c.args.self.now.raw.heads c.args.self.now.raw.cells.now c.args.table) (rows_of c.args.self.now.raw.heads c.args.self.now.raw.cells.now c.args.table) c.in-Err.before c.ranges.key c.in-Err.ensures in
     let before : Before (nodes_of c.args.self.now.raw.heads c.args.self.now.raw.cells.now c.args.table) c.in-Err.before (rank c.args.key (rows_of c.args.self.now.raw.heads c.args.self.now.raw.cells.now c.args.table)) = (omega (arith, rank_le c.args.key (rows_of c.args.self.now.raw.heads c.args.self.now.raw.cells.now c.args.table), length_rows c.args.self.now.raw.heads c.args.self.now.raw.cells.now c.args.table), f.1) in
     let p = put_here c.args.self.now.limit (rows_of c.args.self.now.raw.heads c.args.self.now.raw.cells.now) c.args.table (omega arith) (omega arith) (held c.args.self.now).kept

@@ -33,8 +33,8 @@ returns-in-Ok c =
     (c.remove-entry.ensures.here (rank c.args.key (rows_of c.args.self.now.raw.heads c.args.self.now.raw.cells.now c.args.table)) before (omega arith)) in
     record { answer = p.0; after = p.1 }
 
-pub invariant-of-self : goal.invariant-of-self
-invariant-of-self c =
+pub invariant_of-self : goal.invariant_of-self
+invariant_of-self c =
     let f = found c.args.key (nodes_of c.args.self.now.raw.heads c.args.self.now.raw.cells.now c.args.table) (rows_of c.args.self.now.raw.heads c.args.self.now.raw.cells.now c.args.table) c.in-Ok.before c.ranges.key c.in-Ok.ensures in
     let l = rank_lt c.args.key (rows_of c.args.self.now.raw.heads c.args.self.now.raw.cells.now c.args.table) f.0 in
     let lr = length_rows c.args.self.now.raw.heads c.args.self.now.raw.cells.now c.args.table in

@@ -35,8 +35,8 @@ returns-else-rows-self c =
     (c.insert.ensures.slots ∙ ap (λ k. opened c.args.self.now.raw.slots.now (c.base-base.result + c.in-Err.at) (c.base-base.result + get_or c.args.self.now.raw.counts (c.args.table - 1) 0) (record { key = k; row = c.args.row })) (to_z-of_z w32 c.args.key c.ranges.key)) in
     record { answer = p.0; after = ap (λ n. meant c.args.self.now.limit n c.insert.new.self.slots.now) c.insert.ensures.counts ∙ p.1 }
 
-pub invariant-of-self : goal.invariant-of-self
-invariant-of-self c =
+pub invariant_of-self : goal.invariant_of-self
+invariant_of-self c =
     let f = missed c.args.key (part c.args.self.now.limit c.args.self.now.raw.counts c.args.self.now.raw.slots.now (c.args.table - 1)) c.in-Err.at c.ranges.key c.in-Err.ensures in
     let p = put_here _ _ _ (held c.args.self.now) c.args.table (omega arith) (omega arith)
     (record { key = c.args.key; row = c.args.row }) c.insert.new.self.slots.now c.base-base.result c.in-Err.at c.base-base.ensures.value (omega (arith, c.rows.ensures.count, length_part _ _ _ (held c.args.self.now) (c.args.table - 1) (omega arith))) f

@@ -19,8 +19,8 @@ bounds-self-base c =
     let l = rank_lt c.args.key (part c.args.self.now.limit c.args.self.now.raw.counts c.args.self.now.raw.slots.now (c.args.table - 1)) f.0 in
     omega (arith, f.1, c.base-base.ensures.bound, c.args.self.now.within (c.args.table - 1) (omega arith))
 
-pub overflow-add-entry : goal.overflow-add-entry
-overflow-add-entry c =
+pub overflow_add-entry : goal.overflow_add-entry
+overflow_add-entry c =
     let i = bounds-self-base c in
     let m = limit_from c.args.self.now.limit c.args.self.now.limited in
     let s = c.args.self.now.size in
@@ -40,15 +40,15 @@ returns-in-Ok c =
     c.args.key _ c.remove.new.self.slots.now c.base-base.result c.in-Ok.at c.base-base.ensures.value f refl c.remove.ensures.slots in
     record { answer = p.0; after = ap (λ n. meant c.args.self.now.limit n c.remove.new.self.slots.now) c.remove.ensures.counts ∙ p.1 }
 
-pub invariant-of-self : goal.invariant-of-self
-invariant-of-self c =
+pub invariant_of-self : goal.invariant_of-self
+invariant_of-self c =
     let f = found c.args.key (part c.args.self.now.limit c.args.self.now.raw.counts c.args.self.now.raw.slots.now (c.args.table - 1)) c.in-Ok.at c.ranges.key c.in-Ok.ensures in
     let p = take_here _ _ _ (held c.args.self.now) c.args.table (omega arith) (omega arith)
     c.args.key _ c.remove.new.self.slots.now c.base-base.result c.in-Ok.at c.base-base.ensures.value f refl c.remove.ensures.slots in
     fields _ _ _ _ c.remove.ensures.counts p.2
 
-pub offset-bounds-self-base : goal.offset-bounds-self-base
-offset-bounds-self-base c =
+pub offset_bounds-self-base : goal.offset_bounds-self-base
+offset_bounds-self-base c =
     let i = bounds-self-base c in
     let m = limit_from c.args.self.now.limit c.args.self.now.limited in
     let s = c.args.self.now.size in
