@@ -1,12 +1,12 @@
 -- A token found at the front parts the bytes there, and stands there before any other rest that does not go on with it.
-use Rattle.std.proofs.Common.{◌≡◌, ℕ, ◌+◌, ◌<◌, ◌≤◌, Bool, true, false, cond, not, eqb, List, [], ◌∷◌, ◌++◌, length, get_or, take, drop, Some, None, Ok, Err, Option, sym, refl, ap, ◌∙◌, subst, arith, length-append}
+use Rattle.std.proofs.Common.{◌≡◌, ℕ, ◌<◌, ◌≤◌, Bool, true, false, cond, not, eqb, List, [], ◌∷◌, ◌++◌, length, get_or, take, Some, None, Ok, Err, Option, sym, refl, ap, ◌∙◌, subst, arith, length-append}
 use Rattle.std.proofs.lemmas.Bool.{cond-true}
 use Rattle.faults.specs.declared.Fault.TheVariants.{NoToken}
 use Rattle.classes.specs.Bytes.{class_of}
 use Rattle.classes.specs.declared.Class.{Class}
 use Rattle.classes.specs.declared.Class.TheVariants.{Other, Blank, Letter, Digit, Sign, Twin}
 use Rattle.lexer.specs.declared.runs.Run.{Run}
-use Rattle.lexer.specs.declared.runs.Run.TheVariants.{Blanks, Word, Digits}
+use Rattle.lexer.specs.declared.runs.Run.TheVariants.{Word, Digits}
 use Rattle.lexer.specs.declared.keywords.Keyword.{Keyword}
 use Rattle.lexer.specs.declared.signs.Sign.{Sign as Mark}
 use Rattle.lexer.specs.Runs.{goes_on, goes, reach_of}
@@ -14,10 +14,10 @@ use Rattle.lexer.specs.Keywords.{keyword_of}
 use Rattle.lexer.specs.Numbers.{number_of}
 use Rattle.lexer.specs.Signs.{sign_of, twin_of}
 use Rattle.lexer.specs.Tokens.{Lexeme, lexeme, number, sign}
-use Rattle.lexer.specs.Lexing.{word_kind, word_token, number_token, twin_token, class_token, front_token}
+use Rattle.lexer.specs.Lexing.{word_kind, word_token, number_token, class_token, front_token}
 use Rattle.lexer.specs.Layout.{maximal}
 use Rattle.lexer.proofs.Next.{front_class}
-use Rattle.lexer.proofs.Splits.{Split, split, every, stopped, taken_glued, taken_alone, every_taken}
+use Rattle.lexer.proofs.Splits.{split, stopped, taken_glued, taken_alone, every_taken}
 
 -- A token at the front of some bytes, and the rest.
 pub record Front (s : List ℕ) (place : ℕ) (t : Lexeme) : Type 0 where

@@ -1,5 +1,5 @@
 -- The next token is what the layout says, the layout is the only one, and blanks between tokens do not matter.
-use Rattle.std.proofs.Common.{◌≡◌, ℕ, ◌+◌, ◌-◌, ◌<◌, ◌≤◌, Bool, true, false, cond, not, ◌&&◌, eqb, ◌⊎◌, List, [], ◌∷◌, ◌++◌, map, length, get_or, take, drop, Some, None, Ok, Err, Option, Result, sym, refl, ap, ◌∙◌, subst, inl, inr, append_assoc, append-nil, arith, length-append, length-drop}
+use Rattle.std.proofs.Common.{◌≡◌, ℕ, ◌+◌, ◌-◌, ◌<◌, ◌≤◌, Bool, true, false, cond, not, eqb, ◌⊎◌, List, [], ◌∷◌, ◌++◌, length, take, drop, Some, None, Ok, Err, Option, Result, sym, refl, ap, ◌∙◌, subst, inl, inr, append_assoc, append-nil, arith, length-append, length-drop}
 use Rattle.std.proofs.lemmas.List.{take_at, drop_at, drop_all, drop-drop}
 use Rattle.std.specs.List.{between}
 use Rattle.faults.specs.declared.Fault.{Fault}
@@ -7,15 +7,14 @@ use Rattle.faults.specs.declared.Fault.TheVariants.{NoToken, Memory}
 use Rattle.classes.specs.Bytes.{is_blank, is_letter, is_digit, is_sign, is_twin, class_of}
 use Rattle.classes.specs.declared.Class.{Class}
 use Rattle.classes.specs.declared.Class.TheVariants.{Other, Blank, Letter, Digit, Sign, Twin}
-use Rattle.lexer.specs.declared.runs.Run.{Run}
-use Rattle.lexer.specs.declared.runs.Run.TheVariants.{Blanks, Word, Digits}
+use Rattle.lexer.specs.declared.runs.Run.TheVariants.{Blanks, Digits}
 use Rattle.lexer.specs.Runs.{goes_on, goes, reach_of}
-use Rattle.lexer.specs.Tokens.{Kind, name, number, keyword, sign, Lexeme, lexeme, after}
+use Rattle.lexer.specs.Tokens.{sign, Lexeme, lexeme, after}
 use Rattle.lexer.specs.Numbers.{number_of}
 use Rattle.lexer.specs.Signs.{twin_of}
 use Rattle.lexer.specs.Lexing.{number_token, class_token, front_token, found, or_end, next_from, next_token, with_end}
-use Rattle.lexer.specs.Layout.{blank, maximal, extends, Begins, Laid, Advances, Cut, Broken, Answers, apart, Respaced, unplaced, SameTokens}
-use Rattle.lexer.proofs.Splits.{Split, split, every, stopped, reach_glued}
+use Rattle.lexer.specs.Layout.{blank, maximal, Begins, Laid, Advances, Cut, Answers}
+use Rattle.lexer.proofs.Splits.{split, every, stopped, reach_glued}
 use Rattle.lexer.proofs.Found.{Front, front_found, front_before, token_some, never}
 
 -- A blank goes on with blanks, and with nothing else.

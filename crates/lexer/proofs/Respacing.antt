@@ -1,23 +1,22 @@
 -- Blanks between tokens do not matter.
-use Rattle.std.proofs.Common.{◌≡◌, ℕ, ◌+◌, Bool, true, false, cond, not, ◌&&◌, eqb, List, [], ◌∷◌, ◌++◌, map, length, get_or, take, drop, Some, None, Ok, Err, Option, Result, sym, refl, ap, ◌∙◌, subst, arith}
+use Rattle.std.proofs.Common.{◌≡◌, ℕ, ◌+◌, Bool, true, false, cond, not, eqb, List, [], ◌∷◌, ◌++◌, map, length, get_or, take, drop, Some, None, Ok, Err, Option, Result, sym, refl, ap, ◌∙◌, subst, arith}
 use Rattle.std.proofs.lemmas.List.{drop_at}
 use Rattle.std.proofs.lemmas.Bool.{cond-true}
 use Rattle.faults.specs.declared.Fault.{Fault}
 use Rattle.faults.specs.declared.Fault.TheVariants.{NoToken}
-use Rattle.classes.specs.Bytes.{is_blank, is_letter, is_digit, is_sign, is_twin, class_of}
+use Rattle.classes.specs.Bytes.{is_blank, class_of}
 use Rattle.classes.specs.declared.Class.{Class}
 use Rattle.classes.specs.declared.Class.TheVariants.{Other, Blank, Letter, Digit, Sign, Twin}
-use Rattle.lexer.specs.declared.runs.Run.{Run}
 use Rattle.lexer.specs.declared.runs.Run.TheVariants.{Blanks, Word, Digits}
-use Rattle.lexer.specs.Runs.{goes_on, goes, reach_of}
+use Rattle.lexer.specs.Runs.{goes_on, reach_of}
 use Rattle.lexer.specs.Signs.{sign_of, twin_of}
 use Rattle.lexer.specs.Numbers.{number_of}
 use Rattle.lexer.specs.Tokens.{Kind, name, number, keyword, sign, Lexeme, lexeme, after}
 use Rattle.lexer.specs.Lexing.{word_token, number_token, class_token, front_token}
-use Rattle.lexer.specs.Layout.{blank, extends, maximal, Begins, Laid, apart, Respaced, unplaced}
-use Rattle.lexer.proofs.Splits.{every, stopped, reach_glued, and_first}
+use Rattle.lexer.specs.Layout.{blank, extends, maximal, Laid, apart, Respaced, unplaced}
+use Rattle.lexer.proofs.Splits.{reach_glued, and_first}
 use Rattle.lexer.proofs.Found.{never}
-use Rattle.lexer.proofs.Laws.{goes_blanks, every_blank, token_solid}
+use Rattle.lexer.proofs.Laws.{every_blank, token_solid}
 
 -- The same bytes at another place are the same token there.
 abbrev moved : Lexeme → ℕ → Lexeme

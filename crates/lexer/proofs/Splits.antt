@@ -1,20 +1,10 @@
 -- The longest run at the front parts some bytes in two, and so does a token.
-use Rattle.std.proofs.Common.{◌≡◌, ℕ, suc, ◌+◌, ◌≤◌, Bool, true, false, cond, not, ◌&&◌, eqb, List, [], ◌∷◌, ◌++◌, length, get_or, take, drop, Some, None, Ok, Err, Option, sym, refl, ap, ◌∙◌, subst, append-nil, le_refl, one-add, arith}
+use Rattle.std.proofs.Common.{◌≡◌, ℕ, suc, Bool, true, false, not, ◌&&◌, List, [], ◌∷◌, ◌++◌, length, take, drop, sym, refl, ap, ◌∙◌, append-nil, one-add, arith}
 use Rattle.std.specs.List.{prefix_len}
-use Rattle.std.proofs.lemmas.List.{take_at, take_all, drop_at}
+use Rattle.std.proofs.lemmas.List.{take_at, drop_at}
 use Rattle.std.proofs.lemmas.Bool.{cond-true, cond-false}
-use Rattle.classes.specs.Bytes.{class_of}
-use Rattle.classes.specs.declared.Class.{Class}
-use Rattle.classes.specs.declared.Class.TheVariants.{Other, Blank, Letter, Digit, Sign, Twin}
 use Rattle.lexer.specs.declared.runs.Run.{Run}
-use Rattle.lexer.specs.declared.runs.Run.TheVariants.{Blanks, Word, Digits}
-use Rattle.lexer.specs.declared.keywords.Keyword.{Keyword}
-use Rattle.lexer.specs.Runs.{goes_on, goes, reach_of}
-use Rattle.lexer.specs.Keywords.{keyword_of}
-use Rattle.lexer.specs.Numbers.{number_of}
-use Rattle.lexer.specs.Tokens.{Lexeme, lexeme, number, sign}
-use Rattle.lexer.specs.Lexing.{word_kind, word_token, number_token, twin_token, class_token, front_token}
-use Rattle.lexer.specs.Layout.{maximal}
+use Rattle.lexer.specs.Runs.{goes, reach_of}
 
 -- All of some bytes go on with a run.
 abbrev pub every : Run → List ℕ → Bool

@@ -1,4 +1,6 @@
 //! Cuts a model text into tokens, one at a time.
+#![tactic(auto)]
+
 pub mod keywords;
 mod numbers;
 mod runs;

@@ -3,7 +3,6 @@ use Rattle.std.proofs.Common.{◌≡◌, ℕ, zero, suc, ◌≤◌, Bool, true, 
 use Rattle.std.proofs.lemmas.Bool.{and_parts, or_from}
 use Rattle.faults.specs.declared.Fault.{Fault}
 use Rattle.faults.specs.declared.Fault.TheVariants.{NotAllowed}
-use Rattle.lexer.specs.declared.keywords.Keyword.{Keyword}
 use Rattle.lexer.specs.declared.keywords.Keyword.TheVariants.{Head, Nil, True, False}
 use Rattle.lexer.specs.declared.signs.Sign.{Sign}
 use Rattle.lexer.specs.declared.signs.Sign.TheVariants.{Open, Close, Dot, Minus, Not, Equal}

@@ -1,5 +1,5 @@
 -- Expressions and conditions in a text: what stands from a place on, and the place behind it, or the refusal.
-use Rattle.std.specs.Prelude.{ℕ, zero, suc, Bool, true, false, cond, ◌&&◌, ◌||◌, eqb, List, Some, None, Ok, Err, Option, Result}
+use Rattle.std.specs.Prelude.{ℕ, zero, suc, Bool, true, false, cond, ◌&&◌, ◌||◌, List, Some, None, Ok, Err, Option, Result}
 use Rattle.faults.specs.declared.Fault.{Fault}
 use Rattle.faults.specs.declared.Fault.TheVariants.{NotAllowed, LimitPassed}
 use Rattle.lexer.specs.declared.signs.Sign.{Sign}
@@ -12,7 +12,7 @@ use Rattle.terms.specs.declared.shapes.Shape.{Shape}
 use Rattle.terms.specs.declared.shapes.Shape.TheVariants as shape
 use Rattle.terms.specs.declared.shapes.Want.{Want}
 use Rattle.terms.specs.declared.shapes.Operator.{Operator}
-use Rattle.terms.specs.Pull.{and_then, pulled, sign_number, is_sign, is_keyword, sign_at, keyword_at, name_at}
+use Rattle.terms.specs.Pull.{and_then, pulled, is_sign, is_keyword, sign_at, keyword_at, name_at}
 use Rattle.terms.specs.Shapes.{operator_of, sides_of, given_by, serves, left_side, takes, inner_of, made_of}
 
 -- A term's shape and the place behind it.

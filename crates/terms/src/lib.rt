@@ -1,4 +1,6 @@
 //! Reads expressions and conditions, and refuses them at the first token at which none could go on.
+#![tactic(auto)]
+
 pub mod pull;
 mod shapes;
 pub mod terms;

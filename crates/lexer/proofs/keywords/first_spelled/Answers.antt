@@ -1,8 +1,8 @@
-use Rattle.std.proofs.Common.{◌≡◌, true, false, sym, refl, ap, ◌∙◌, arith}
+use Rattle.std.proofs.Common.{sym, ap, ◌∙◌}
 use Rattle.std.specs.Str.{bytes_eq}
 use Rattle.std.proofs.lemmas.Bool.{cond-true, cond-false}
 use Rattle.std.proofs.lemmas.List.{drop_all}
-use Rattle.lexer.specs.Keywords.{first_spelled, spell}
+use Rattle.lexer.specs.Keywords.{first_spelled}
 use Rattle.lexer.specs.declared.keywords.Keyword.TheVariants.{Model}
 use Rattle.lexer.proofs.Steps.{spelled_more}
 use Rattle.lexer.proofs.keywords.first_spelled.Goals as goal

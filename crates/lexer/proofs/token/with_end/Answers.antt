@@ -1,4 +1,4 @@
-use Rattle.std.proofs.Common.{length, drop, sym, refl, ap, ◌∙◌, arith, length-drop}
+use Rattle.std.proofs.Common.{length, drop, refl, ap, arith, length-drop}
 use Rattle.lexer.specs.Tokens.{lexeme_of}
 use Rattle.lexer.proofs.Found.{front_found, front_size}
 use Rattle.lexer.proofs.token.with_end.Goals as goal

@@ -1,8 +1,7 @@
-use Rattle.std.proofs.Common.{List, [], ◌∷◌, ◌++◌, map, Ok, Err, vec_items, sym, ap, ◌∙◌, subst}
+use Rattle.std.proofs.Common.{[], ◌∷◌, map, Ok, Err, vec_items, sym, ap, ◌∙◌}
 use mathlib.Core.List.{map-append}
 use Rattle.std.proofs.lemmas.Result.{err_from_is_err_and}
 use Rattle.lexer.specs.Tokens.{lexeme_of, lexemes, option_read}
-use Rattle.lexer.specs.Layout.{Cut}
 use Rattle.lexer.proofs.Laws.{only, answered, refused, end_some, cut_more}
 use Rattle.lexer.proofs.Respacing.{respaced_laid}
 use Rattle.lexer.proofs.tokens.tokens.Goals as goal

@@ -1,4 +1,4 @@
-use Rattle.std.proofs.Common.{◌≡◌, length, Some, Ok, sym, ap, ◌∙◌}
+use Rattle.std.proofs.Common.{length, Ok, sym, ap, ◌∙◌}
 use Rattle.std.proofs.lemmas.Result.{err_from_is_err_and}
 use Rattle.lexer.specs.Tokens.{lexeme_of, option_read}
 use Rattle.terms.specs.Pull.{word_of, and_then, or_refused, pulled}
