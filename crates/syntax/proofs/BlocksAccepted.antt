@@ -8,9 +8,9 @@ use Rattle.terms.specs.declared.pull.Pulled.{Pulled}
 use Rattle.terms.specs.declared.shapes.Want.TheVariants as want
 use Rattle.terms.specs.Pull.{and_then, pulled, sign_at, keyword_at}
 use Rattle.terms.specs.Trees.{Token, name, number, keyword, sign, words_of}
-use Rattle.terms.proofs.Steps.{never, nothing, then_ok, word_in, First}
+use Rattle.terms.proofs.Steps.{never, nothing, then_ok, word_in}
 use Rattle.syntax.specs.Repeats.{some, repeated}
-use Rattle.syntax.specs.Trees.{Table, Act, next, Simple, assign, clear, tail, select, caught, read, load, act, commit, rollback, Block, none, simple, branch, loop, Model, act_words, simple_words, block_words, ActFits, SimpleFits, BlockFits, count_of, levels_of}
+use Rattle.syntax.specs.Trees.{Act, next, Simple, assign, clear, tail, select, caught, read, load, act, commit, rollback, Block, none, simple, branch, loop, act_words, simple_words, block_words, ActFits, SimpleFits, BlockFits, count_of, levels_of}
 use Rattle.syntax.proofs.Repeating.{repeated_ok}
 use Rattle.syntax.proofs.Runs.{Run, run_none, glue, ends_at, sign_step, keyword_step, pull_step, term_step, sign_last, keyword_last, term_last}
 use Rattle.syntax.specs.declared.clauses.Write.TheVariants.{Insert, Update, Delete}
@@ -302,8 +302,8 @@ branch_ok text d block reads at m room st has s h =
       levels = λ b g. omega arith;
     }
 
-loop-ok : (text : List ℕ) (d : ℕ) (block : Blocks) → Reads text d block → (at m room : ℕ) → Run text at (keyword kw.While ∷ []) m → 1 ≤ room → (s : ℕ × ℕ) → loop_at text block m (room - 1) ≡ Ok s → Step text (suc d) at room s
-loop-ok text d block reads at m room st has s h =
+loop_ok : (text : List ℕ) (d : ℕ) (block : Blocks) → Reads text d block → (at m room : ℕ) → Run text at (keyword kw.While ∷ []) m → 1 ≤ room → (s : ℕ × ℕ) → loop_at text block m (room - 1) ≡ Ok s → Step text (suc d) at room s
+loop_ok text d block reads at m room st has s h =
     let c = term_step text want.Truth m _ _ h in
     let t = then_ok (part_at text block kw.Do (c.0, room - 1)) _ _ c.4 in
     let tk = keyword_step text kw.Do c.0 (λ a. block a (room - 1)) t.0 t.1 in
@@ -328,7 +328,7 @@ holding_ok : (text : List ℕ) (d : ℕ) → Holds text d (holding text d)
 unfolding holding
 holding_ok text zero h at place m room st has s e = absurd (never e)
 holding_ok text (suc d) If at place m room st has s e = branch_ok text d (sequence text (holding text d)) (λ at room s. sequence_ok text d (holding text d) (holding_ok text d) (suc room) (at, room) s) at m room st has s e
-holding_ok text (suc d) While at place m room st has s e = loop-ok text d (sequence text (holding text d)) (λ at room s. sequence_ok text d (holding text d) (holding_ok text d) (suc room) (at, room) s) at m room st has s e
+holding_ok text (suc d) While at place m room st has s e = loop_ok text d (sequence text (holding text d)) (λ at room s. sequence_ok text d (holding text d) (holding_ok text d) (suc room) (at, room) s) at m room st has s e
 
 pub block_ok : (text : List ℕ) (d at room : ℕ) (s : ℕ × ℕ) → block_at text d at room ≡ Ok s → Blocked text d (at, room) s
 block_ok text d at room s h = sequence_ok text d (holding text d) (holding_ok text d) (suc room) (at, room) s h

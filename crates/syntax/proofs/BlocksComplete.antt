@@ -11,7 +11,7 @@ use Rattle.terms.specs.declared.shapes.Want.TheVariants as want
 use Rattle.terms.specs.Pull.{and_then, pulled, must, is_sign, is_keyword, sign_at, keyword_at}
 use Rattle.terms.specs.Trees.{Token, name, number, keyword, sign, Tree, literal, lone, head, cell, truth, is_nil, only, pair, words_of}
 use Rattle.terms.specs.Grammar.{Stands}
-use Rattle.terms.proofs.Steps.{then_by, word_in, First, first}
+use Rattle.terms.proofs.Steps.{then_by, word_in, first}
 use Rattle.syntax.specs.Repeats.{some, repeated}
 use Rattle.syntax.specs.Trees.{Act, next, insert, update, delete, Simple, assign, clear, tail, select, caught, read, load, act, commit, rollback, Block, none, simple, branch, loop, names_words, act_words, simple_words, block_words, Fits, ActFits, SimpleFits, BlockFits, count_of, levels_of}
 use Rattle.syntax.proofs.Repeating.{repeated_none}
@@ -131,8 +131,8 @@ module _ (text : List ℕ) where
       (then_by (part_at text block kw.Else (p.0, left)) _ (q.0, left') _ (keyword_go text kw.Else p.0 (λ k. block k left) _ y q.0 q.1 (λ k r. by k q.0 r (stop q.2 refl)))
       (then_by (last_word text kw.EndIf q.0) (λ e. Ok (e, left')) e _ (last_read kw.EndIf q.0 e q.2) refl)))
 
-  loop-read : (block : Blocks) (c : Tree) (x : List Token) (at e room left : ℕ) → Fits want.Truth c → Run text at (words_of c ++ (keyword kw.Do ∷ x ++ (keyword kw.EndWhile ∷ sign Semicolon ∷ []))) e → ((at e : ℕ) → Run text at x e → Stop e → block at room ≡ Ok (e, left)) → loop_at text block at room ≡ Ok (e, left)
-  loop-read block c x at e room left fc s bx =
+  loop_read : (block : Blocks) (c : Tree) (x : List Token) (at e room left : ℕ) → Fits want.Truth c → Run text at (words_of c ++ (keyword kw.Do ∷ x ++ (keyword kw.EndWhile ∷ sign Semicolon ∷ []))) e → ((at e : ℕ) → Run text at x e → Stop e → block at room ≡ Ok (e, left)) → loop_at text block at room ≡ Ok (e, left)
+  loop_read block c x at e room left fc s bx =
       term_go text want.Truth c at _ _ (keyword kw.Do) _ e fc refl s (λ a s.
       let p = split (keyword kw.Do ∷ x) (keyword kw.EndWhile ∷ sign Semicolon ∷ []) s in
       then_by (part_at text block kw.Do (a, room)) _ (p.0, left) _ (keyword_go text kw.Do a (λ k. block k room) _ x p.0 p.1 (λ k r. bx k p.0 r (stop p.2 refl)))
@@ -179,6 +179,6 @@ module _ (text : List ℕ) where
       let rb = rx - count_of x in
       more_read (holding text d) n (at, room) (q.0, rb) _ (omega arith)
       (holder_read d While kw.While refl front at q.0 room rb (omega arith) (omega arith) q.1 (λ m r.
-      loop-read (block_at text (d - 1)) c (block_words x) m q.0 rx rb fits.0 r
+      loop_read (block_at text (d - 1)) c (block_words x) m q.0 rx rb fits.0 r
       (λ at e s st. block_read x (d - 1) (suc rx) at rx e (omega arith) (omega arith) (omega arith) fits.1 st s)))
       (block_read b d (n - 1) q.0 rb e (omega arith) (omega arith) (omega arith) fits.2 st q.2 ∙ ok_left e _ _ (omega arith))

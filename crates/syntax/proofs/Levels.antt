@@ -2,7 +2,7 @@
 use Rattle.std.proofs.Common.{◌≡◌, ℕ, zero, suc, ◌-◌, List, Err, refl, ap, arith}
 use Rattle.faults.specs.declared.Fault.TheVariants.{LimitPassed}
 use Rattle.syntax.specs.declared.statements.Holder.{Holder}
-use Rattle.syntax.specs.Statements.{holder_at, sequence, holding, block_at}
+use Rattle.syntax.specs.Statements.{holder_at, holding, block_at}
 
 pub holding_none : (text : List ℕ) (d : ℕ) (h : Holder) (place at room : ℕ) → d ≡ 0 → holding text d h place at room ≡ Err (LimitPassed place)
 unfolding holding

@@ -9,7 +9,7 @@ use Rattle.terms.specs.Trees.{Token, name, keyword, sign}
 use Rattle.terms.specs.Grammar.{Stands}
 use Rattle.terms.proofs.Steps.{never, then_ok, then_by, cond_ok, word_in}
 use Rattle.syntax.specs.Repeats.{repeated}
-use Rattle.syntax.specs.Trees.{Table, Act, next, insert, update, delete, Simple, assign, clear, tail, select, caught, read, load, act, commit, rollback, Block, none, simple, branch, loop, Model, tables_words, act_words, simple_words, block_words, model_words, count_of, references_in, checks_in, WellFormed}
+use Rattle.syntax.specs.Trees.{Act, next, insert, update, delete, Simple, assign, clear, tail, select, caught, read, load, act, commit, rollback, Block, none, simple, branch, loop, Model, tables_words, act_words, simple_words, block_words, model_words, count_of, references_in, checks_in, WellFormed}
 use Rattle.syntax.proofs.Runs.{Run, glue, split, over, ends_at, keyword_step, name_step, keyword_go, name_go}
 use Rattle.faults.specs.declared.Fault.TheVariants.{ModelTooLong}
 use Rattle.lexer.specs.Tokens.{Lexeme, after}

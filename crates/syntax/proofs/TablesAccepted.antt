@@ -3,7 +3,6 @@ use Rattle.std.proofs.Common.{◌≡◌, ℕ, suc, ◌+◌, ◌-◌, ◌≤◌, 
 use Rattle.std.proofs.lemmas.Bool.{and_parts}
 use Rattle.faults.specs.declared.Fault.{Fault}
 use Rattle.faults.specs.declared.Fault.TheVariants.{NotAllowed}
-use Rattle.lexer.specs.declared.keywords.Keyword.{Keyword}
 use Rattle.lexer.specs.declared.keywords.Keyword.TheVariants as kw
 use Rattle.lexer.specs.declared.signs.Sign.{Sign}
 use Rattle.lexer.specs.declared.signs.Sign.TheVariants.{Open, Close, Comma, Semicolon}

@@ -2,7 +2,6 @@
 use Rattle.std.proofs.Common.{◌≡◌, ℕ, suc, ◌+◌, ◌-◌, ◌<◌, ◌≤◌, Bool, true, false, List, [], ◌∷◌, ◌++◌, length, Some, None, Ok, refl, ap, ◌∙◌, arith}
 use Rattle.std.proofs.lemmas.Bool.{cond-false}
 use Rattle.lexer.specs.declared.keywords.Keyword.TheVariants as kw
-use Rattle.lexer.specs.declared.signs.Sign.{Sign}
 use Rattle.lexer.specs.declared.signs.Sign.TheVariants.{Open, Close, Comma, Semicolon}
 use Rattle.terms.specs.declared.pull.Word.TheVariants as word
 use Rattle.terms.specs.Pull.{and_then, is_keyword, sign_at, keyword_at, name_at}

@@ -1,4 +1,6 @@
 //! The form of a model: read token by token, and refused at the first token at which no model could go on.
+#![tactic(auto)]
+
 mod clauses;
 mod statements;
 mod tables;

@@ -71,7 +71,7 @@ fn last_end(text: &[u8], keyword: Keyword, at: usize) -> Result<usize, Fault>
 }
 
 /// A word and the block behind it.
-#[cycle(next_statement_read_block_read_branch_read_holder_read_loop_read_part)]
+#[cycle(statements)]
 fn read_part(
     text: &[u8],
     keyword: Keyword,
@@ -87,7 +87,7 @@ fn read_part(
 }
 
 /// IF, from its condition on.
-#[cycle(next_statement_read_block_read_branch_read_holder_read_loop_read_part)]
+#[cycle(statements)]
 fn read_branch(text: &[u8], at: usize, depth: usize, room: usize) -> Result<(usize, usize), Fault>
     ensures value { result ≡ branch_at text.now (block_at text.now depth) at room }
     ensures falls { IfOk result (λ s. s.1 ≤ room) }
@@ -100,7 +100,7 @@ fn read_branch(text: &[u8], at: usize, depth: usize, room: usize) -> Result<(usi
 }
 
 /// WHILE, from its condition on.
-#[cycle(next_statement_read_block_read_branch_read_holder_read_loop_read_part)]
+#[cycle(statements)]
 fn read_loop(text: &[u8], at: usize, depth: usize, room: usize) -> Result<(usize, usize), Fault>
     ensures value { result ≡ loop_at text.now (block_at text.now depth) at room }
     ensures falls { IfOk result (λ s. s.1 ≤ room) }
@@ -112,7 +112,7 @@ fn read_loop(text: &[u8], at: usize, depth: usize, room: usize) -> Result<(usize
 }
 
 /// A statement that holds blocks, whose first token stands at `place`, where so many more levels are allowed.
-#[cycle(next_statement_read_block_read_branch_read_holder_read_loop_read_part)]
+#[cycle(statements)]
 fn read_holder(
     text: &[u8],
     holder: Holder,
@@ -134,7 +134,7 @@ fn read_holder(
 }
 
 /// One statement more, if one comes: the place behind it, and how many more are allowed.
-#[cycle(next_statement_read_block_read_branch_read_holder_read_loop_read_part)]
+#[cycle(statements)]
 fn next_statement(
     text: &[u8],
     at: usize,
@@ -159,7 +159,7 @@ fn next_statement(
 }
 
 /// Statements one after another, up to a token that begins none.
-#[cycle(next_statement_read_block_read_branch_read_holder_read_loop_read_part)]
+#[cycle(statements)]
 pub(crate) fn read_block(
     text: &[u8],
     at: usize,

@@ -1,7 +1,7 @@
 use Rattle.std.proofs.Common.{◌≡◌, ◌+◌, ◌-◌, length, Ok, sym, ap, ◌∙◌, arith}
 use Rattle.std.proofs.lemmas.Result.{err_from_is_err_and}
 use Rattle.terms.specs.Pull.{and_then}
-use Rattle.syntax.specs.Clauses.{element_behind, list_at}
+use Rattle.syntax.specs.Clauses.{element_behind}
 use Rattle.syntax.specs.Repeats.{repeated}
 use Rattle.syntax.proofs.Repeating.{repeated_done, repeated_none, repeated_refused, repeated_some}
 use Rattle.syntax.proofs.clauses.list_end.Goals as goal
@@ -26,7 +26,7 @@ pub loop-turn-preserved : goal.loop-turn-preserved
 loop-turn-preserved c =
     let one = element_behind c.args.text.now c.args.element in
     let n = length c.args.text.now in
-    let less : n - (c.loop-turn.-turn + 1) ≡ n - c.loop-turn.-turn - 1 = omega arith in
+    let less : n - (c.loop-turn._turn + 1) ≡ n - c.loop-turn._turn - 1 = omega arith in
     ap (λ k. repeated one k c.in-Some.next) less
     ∙ sym (repeated_some one _ c.loop-turn.end c.in-Some.next (omega arith) (sym c.in_ok-next.ensures ∙ ap Ok c.in-Some.is))
     ∙ c.loop-turn.invariant

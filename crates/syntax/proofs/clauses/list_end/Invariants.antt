@@ -5,5 +5,5 @@ use Rattle.syntax.proofs.clauses.list_end.Given as goal
 
 abbrev pub invariant-loop-turn : goal.invariant-loop-turn
 invariant-loop-turn l =
-    repeated (element_behind l.text l.element) (length l.text - l.-turn) l.end
+    repeated (element_behind l.text l.element) (length l.text - l._turn) l.end
     ≡ repeated (element_behind l.text l.element) (length l.text) l.initial.end

@@ -1,9 +1,9 @@
-use Rattle.std.proofs.Common.{◌≡◌, Ok, sym, ap, ◌∙◌, arith}
+use Rattle.std.proofs.Common.{Ok, sym, ap, ◌∙◌, arith}
 use Rattle.std.proofs.lemmas.Result.{err_from_is_err_and}
 use Rattle.std.proofs.lemmas.Option.{MatchOption-at_some}
 use Rattle.terms.specs.Pull.{and_then}
 use Rattle.syntax.specs.Repeats.{repeated}
-use Rattle.syntax.specs.Tables.{attribute_behind, attributes_at}
+use Rattle.syntax.specs.Tables.{attribute_behind}
 use Rattle.syntax.proofs.Repeating.{going_start, going_more, going_none, going_refused}
 use Rattle.syntax.proofs.tables.attributes_end.Goals as goal
 

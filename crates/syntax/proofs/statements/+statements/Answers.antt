@@ -1,10 +1,10 @@
-use Rattle.std.proofs.Common.{◌≡◌, suc, ◌-◌, ◌≤◌, Ok, sym, refl, ap, ◌∙◌, le_refl, arith, rules}
+use Rattle.std.proofs.Common.{suc, ◌-◌, Ok, sym, ap, ◌∙◌, le_refl, arith}
 use Rattle.std.proofs.lemmas.Result.{err_from_is_err_and}
 use Rattle.std.proofs.lemmas.Option.{MatchOption-at_some}
 use Rattle.syntax.specs.Statements.{holding, holder_at, block_at, statement_by}
 use Rattle.syntax.proofs.Levels.{holding_none, holding_more}
 use Rattle.syntax.proofs.Repeating.{going_start, going_more, going_none, going_refused}
-use Rattle.syntax.proofs.statements.+next_statement_read_block_read_branch_read_holder_read_loop_read_part.Goals as goal
+use Rattle.syntax.proofs.statements.+statements.Goals as goal
 
 pub read_block-loop-next-init : goal.read_block-loop-next-init
 read_block-loop-next-init t c =

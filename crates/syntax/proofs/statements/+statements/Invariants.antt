@@ -1,7 +1,7 @@
 use Rattle.std.proofs.Common.{suc, ◌+◌, ◌*◌, ◌≤◌}
 use Rattle.syntax.specs.Statements.{holding, statement_by}
 use Rattle.syntax.proofs.Repeating.{Going}
-use Rattle.syntax.proofs.statements.+next_statement_read_block_read_branch_read_holder_read_loop_read_part.Given as goal
+use Rattle.syntax.proofs.statements.+statements.Given as goal
 
 abbrev pub decreases-read_holder : goal.decreases-read_holder
 decreases-read_holder l = 5 * l.depth
