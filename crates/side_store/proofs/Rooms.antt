@@ -8,7 +8,7 @@ use Rattle.store.specs.Meaning.{is_limit, ascending, rank, holds, with_entry, wi
 use Rattle.store.proofs.Rows.{rank_le, rank_lt, found_from, missed_from}
 use Rattle.store.proofs.Keeping.{Kept}
 use Rattle.store.proofs.Keeping as keeping
-use Rattle.side_store.specs.declared.store.SideStore.{SideStore}
+use Rattle.side_store.specs.declared.tables.SideStore.{SideStore}
 use Rattle.side_store.specs.Shifts.{opened, closed}
 use Rattle.side_store.specs.Parts.{part, meant}
 use Rattle.side_store.proofs.Moves.{opened_part, opened_left, opened_right, closed_part, closed_left, closed_right, length_opened, length_closed}
@@ -137,11 +137,6 @@ missed k rows at f e = missed_from k rows at (e ∙ ap (λ z. sought z rows) (to
 pub found : (k : ℤ) (rows : List Entry) (at : ℕ) → SFits w32 k → Ok at ≡ sought (to_z w32 (of_z w32 k)) rows → (holds k rows ≡ true) × (rank k rows ≡ at)
 found k rows at f e = found_from k rows at (e ∙ ap (λ z. sought z rows) (to_z-of_z w32 k f))
 
--- the ghost fields again
-abbrev pub Fields : ℕ → List ℕ → List Entry → Type 0
-Fields limit counts slots = (is_limit limit ≡ true) × ((length slots ≡ 8 * limit) × ((length counts ≡ 8) × (((u : ℕ) → u < 8 → get_or counts u 0 ≤ limit) × (((u : ℕ) → u < 8 → ascending (part limit counts slots u) ≡ true) × Unit {0}))))
-
-pub fields : (limit : ℕ) (counts counts' : List ℕ) (slots : List Entry) → counts' ≡ counts → Held limit counts slots → Fields limit counts' slots
-fields limit counts counts' slots e h =
-    let k : Held limit counts' slots = subst (λ n. Held limit n slots) (sym e) h in
-    (k.limited, (k.size, (k.width, (k.within, (k.ascends, tt)))))
+-- the same with the counts by another name
+pub counted : (limit : ℕ) (counts counts' : List ℕ) (slots : List Entry) → counts' ≡ counts → Held limit counts slots → Held limit counts' slots
+counted limit counts counts' slots e h = subst (λ n. Held limit n slots) (sym e) h

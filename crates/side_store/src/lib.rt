@@ -1,6 +1,8 @@
 //! A store whose tables have their rows side by side in key order.
+#![tactic(auto)]
+
 mod shifts;
 mod slots;
-mod store;
+mod tables;
 
-pub use store::SideStore;
+pub use tables::SideStore;

@@ -1,5 +1,5 @@
 -- What a store means: a row limit, and for each of the tables 1 to 8 its rows, in ascending order of distinct keys.
-use Rattle.std.specs.Prelude.{◌≡◌, ℕ, suc, ◌*◌, ◌≤◌, Bool, true, false, cond, not, ◌&&◌, List, [], ◌∷◌, length, get_or, ℤ, pos, is_ok, Some, None, Ok, Err, Option, Result, ◌==◌, int_lt, nat_le, nat_lt, slice_index_or}
+use Rattle.std.specs.Prelude.{◌≡◌, ℕ, suc, ◌*◌, ◌≤◌, Bool, true, false, cond, not, ◌&&◌, List, [], ◌∷◌, length, ℤ, pos, is_ok, Some, None, Ok, Err, Option, Result, ◌==◌, int_lt, nat_le, nat_lt, slice_index_or}
 use Rattle.std.specs.List.{insert, remove}
 use Rattle.faults.specs.declared.Fault.{Fault}
 use Rattle.faults.specs.declared.Fault.TheVariants.{TooFew, BadLimit, KeyTaken, TableFull, NotThere}
@@ -75,11 +75,11 @@ entry_at m t p = cond (is_position m t p) (Some (slice_index_or (m.tables t) p n
 
 -- The key at a position.
 abbrev pub key_at : Meaning → ℕ → ℕ → Result ℤ Fault
-key_at m t p = unless14 (is_position m t p) (get_or (m.tables t) p no_entry).key t
+key_at m t p = unless14 (is_position m t p) (slice_index_or (m.tables t) p no_entry).key t
 
 -- The row at a position.
 abbrev pub row_at : Meaning → ℕ → ℕ → Result (List ℤ) Fault
-row_at m t p = unless14 (is_position m t p) (get_or (m.tables t) p no_entry).row t
+row_at m t p = unless14 (is_position m t p) (slice_index_or (m.tables t) p no_entry).row t
 
 -- A put is refused with 14 for no table, then with 12 for a key that is there, then with 13 for a table that is full.
 abbrev pub put_answer : Meaning → ℕ → ℤ → Result Unit Fault
@@ -92,7 +92,7 @@ put_after m t e = cond (is_ok (put_answer m t e.key)) (updated m t (with_entry e
 
 -- A take tells the key's row, and is refused with 14 for no table or an absent key.
 abbrev pub take_answer : Meaning → ℕ → ℤ → Result (List ℤ) Fault
-take_answer m t k = unless14 (is_table t && holds k (m.tables t)) (get_or (m.tables t) (rank k (m.tables t)) no_entry).row t
+take_answer m t k = unless14 (is_table t && holds k (m.tables t)) (slice_index_or (m.tables t) (rank k (m.tables t)) no_entry).row t
 
 -- A take that is not refused leaves the other rows; a refusal leaves the meaning.
 abbrev pub take_after : Meaning → ℕ → ℤ → Meaning

@@ -1,4 +1,6 @@
 //! What a store of rows means and answers: one trait, with its meaning as ghost tables and limit.
+#![tactic(auto)]
+
 ghost use Rattle.std.specs.Prelude.{◌≡◌, ◌*◌, ◌<◌, ◌≤◌, true, IfOk};
 ghost use Rattle.store.specs.Meaning.{Meaning, Lawful, count_of, key_at, row_at, put_answer, put_after, take_answer, take_after, needed, is_limit};
 

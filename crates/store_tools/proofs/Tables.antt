@@ -1,6 +1,6 @@
 -- All tables of a store, one after another.
 use Rattle.std.proofs.Common.{◌≡◌, ℕ, ◌+◌, ◌<◌, ◌≤◌, true, false, cond, ◌&&◌, eqb, ltb, List, [], ◌∷◌, ◌++◌, sym, refl, ap, ◌∙◌, subst, ⊎_elim, arith}
-use mathlib.Core.Path.{fun_ext}
+use Rattle.std.proofs.Math.Path.{fun_ext}
 use Rattle.std.proofs.lemmas.Bool.{cond-true, cond-false, eq-eqb, ne_eqb, cases_eq, cases_Bool, and_from, and_left, and_right, lt-ltb, le-ltb, cases_lt}
 use Rattle.store.specs.declared.Entry.{Entry}
 use Rattle.store.specs.Meaning.{Meaning, is_table, updated}

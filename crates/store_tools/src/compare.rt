@@ -15,9 +15,9 @@ fn same_entry(a: Entry, b: Entry) -> bool
 /// Whether table `table` has the same rows in two stores.
 fn same_table<A: Store, B: Store>(a: &A, b: &B, table: usize) -> bool
     requires { is_table table ≡ true }
-    ensures decides { Decides result ((A.Store.meaning a.now).tables table ≡ (B.Store.meaning b.now).tables table) }
-    ensures first { Lawful (A.Store.meaning a.now) }
-    ensures second { Lawful (B.Store.meaning b.now) }
+    ensures decides { Decides result ((A.meaning a.now).tables table ≡ (B.meaning b.now).tables table) }
+    ensures first { Lawful (A.meaning a.now) }
+    ensures second { Lawful (B.meaning b.now) }
 {
     let rows = rows_of(a, table);
     if rows_of(b, table) != rows {
@@ -33,7 +33,7 @@ fn same_table<A: Store, B: Store>(a: &A, b: &B, table: usize) -> bool
 
 /// Whether two stores mean the same: the same limit, and the same rows in each table.
 pub fn same<A: Store, B: Store>(a: &A, b: &B) -> bool
-    ensures { Decides result (A.Store.meaning a.now ≡ B.Store.meaning b.now) }
+    ensures { Decides result (A.meaning a.now ≡ B.meaning b.now) }
 {
     if a.limit() != b.limit() {
         return false;

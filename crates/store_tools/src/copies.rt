@@ -10,8 +10,8 @@ use store::{Store, TABLES};
 /// Takes all rows out of table `table`.
 fn clear_table<S: Store>(store: &mut S, table: usize)
     requires { is_table table ≡ true }
-    ensures after { S.Store.meaning store.new ≡ updated (S.Store.meaning store.old) table [] }
-    ensures lawful { Lawful (S.Store.meaning store.old) }
+    ensures after { S.meaning store.new ≡ updated (S.meaning store.old) table [] }
+    ensures lawful { Lawful (S.meaning store.old) }
 {
     let rows = rows_of(store, table);
     for i in 0..rows {
@@ -22,7 +22,7 @@ fn clear_table<S: Store>(store: &mut S, table: usize)
 
 /// Empties a store.
 pub fn clear<S: Store>(store: &mut S)
-    ensures { S.Store.meaning store.new ≡ empty_of (S.Store.meaning store.old).limit }
+    ensures { S.meaning store.new ≡ empty_of (S.meaning store.old).limit }
 {
     for table in 1..=TABLES {
         clear_table(store, table);
@@ -32,10 +32,10 @@ pub fn clear<S: Store>(store: &mut S)
 /// Puts all rows of table `table` of one store into that table, which is empty, of another.
 fn copy_table<A: Store, B: Store>(from: &A, to: &mut B, table: usize)
     requires table { is_table table ≡ true }
-    requires limit { (B.Store.meaning to.old).limit ≡ (A.Store.meaning from.now).limit }
-    requires empty { (B.Store.meaning to.old).tables table ≡ [] }
-    ensures after { B.Store.meaning to.new ≡ updated (B.Store.meaning to.old) table ((A.Store.meaning from.now).tables table) }
-    ensures lawful { Lawful (A.Store.meaning from.now) }
+    requires limit { (B.meaning to.old).limit ≡ (A.meaning from.now).limit }
+    requires empty { (B.meaning to.old).tables table ≡ [] }
+    ensures after { B.meaning to.new ≡ updated (B.meaning to.old) table ((A.meaning from.now).tables table) }
+    ensures lawful { Lawful (A.meaning from.now) }
 {
     let rows = rows_of(from, table);
     for position in 0..rows {
@@ -46,8 +46,8 @@ fn copy_table<A: Store, B: Store>(from: &A, to: &mut B, table: usize)
 
 /// Puts all rows of one store into another of the same limit, which is empty.
 fn copy_tables<A: Store, B: Store>(from: &A, to: &mut B)
-    requires { B.Store.meaning to.old ≡ empty_of (A.Store.meaning from.now).limit }
-    ensures { B.Store.meaning to.new ≡ A.Store.meaning from.now }
+    requires { B.meaning to.old ≡ empty_of (A.meaning from.now).limit }
+    ensures { B.meaning to.new ≡ A.meaning from.now }
 {
     for table in 1..=TABLES {
         copy_table(from, to, table);
@@ -56,8 +56,8 @@ fn copy_tables<A: Store, B: Store>(from: &A, to: &mut B)
 
 /// Makes the contents of one store those of another, whose limit must be the same.
 pub fn copy_store<A: Store, B: Store>(from: &A, to: &mut B) -> Result<(), Fault>
-    ensures answer { result ≡ copy_store_answer (A.Store.meaning from.now) (B.Store.meaning to.old) }
-    ensures after { B.Store.meaning to.new ≡ copy_store_after (A.Store.meaning from.now) (B.Store.meaning to.old) }
+    ensures answer { result ≡ copy_store_answer (A.meaning from.now) (B.meaning to.old) }
+    ensures after { B.meaning to.new ≡ copy_store_after (A.meaning from.now) (B.meaning to.old) }
 {
     let limit = from.limit();
     if to.limit() != limit {

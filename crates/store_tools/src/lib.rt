@@ -1,4 +1,6 @@
 //! Work on any store, proved from what the store trait says alone.
+#![tactic(auto)]
+
 mod compare;
 mod copies;
 mod reads;

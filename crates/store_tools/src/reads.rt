@@ -10,8 +10,8 @@ use store::{Entry, Store};
 /// How many rows table `table`, which is one, has.
 pub fn rows_of<S: Store>(store: &S, table: usize) -> usize
     requires { is_table table ≡ true }
-    ensures count { result ≡ length ((S.Store.meaning store.now).tables table) }
-    ensures lawful { Lawful (S.Store.meaning store.now) }
+    ensures count { result ≡ length ((S.meaning store.now).tables table) }
+    ensures lawful { Lawful (S.meaning store.now) }
 {
     match store.count(table) {
         Ok(n) => n,
@@ -22,8 +22,8 @@ pub fn rows_of<S: Store>(store: &S, table: usize) -> usize
 /// The key and the row at `position`, below the count, of table `table`.
 pub fn entry_of<S: Store>(store: &S, table: usize, position: usize) -> Entry
     requires table { is_table table ≡ true }
-    requires position { position < length ((S.Store.meaning store.now).tables table) }
-    ensures { result ≡ slice_index_or ((S.Store.meaning store.now).tables table) position no_entry }
+    requires position { position < length ((S.meaning store.now).tables table) }
+    ensures { result ≡ slice_index_or ((S.meaning store.now).tables table) position no_entry }
 {
     match (store.key_at(table, position), store.row_at(table, position)) {
         (Ok(key), Ok(row)) => Entry { key, row },
@@ -33,7 +33,7 @@ pub fn entry_of<S: Store>(store: &S, table: usize, position: usize) -> Entry
 
 /// The position of key `key` in table `table`, if it is there.
 pub fn position<S: Store>(store: &S, table: usize, key: i32) -> Result<Option<usize>, Fault>
-    ensures { result ≡ position_of (S.Store.meaning store.now) table key }
+    ensures { result ≡ position_of (S.meaning store.now) table key }
 {
     let rows = store.count(table)?;
     for i in 0..rows {
@@ -49,7 +49,7 @@ pub fn position<S: Store>(store: &S, table: usize, key: i32) -> Result<Option<us
 
 /// Whether key `key` is in table `table`.
 pub fn has_key<S: Store>(store: &S, table: usize, key: i32) -> Result<bool, Fault>
-    ensures { result ≡ has_key (S.Store.meaning store.now) table key }
+    ensures { result ≡ has_key (S.meaning store.now) table key }
 {
     match position(store, table, key)? {
         Some(_) => Ok(true),

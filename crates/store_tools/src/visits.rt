@@ -24,7 +24,7 @@ pub fn visit_rows<S: Store, V: Visitor>(
     visitor: &mut V,
 ) -> Result<(), Fault>
     ensures answer { result ≡ visit_answer table }
-    ensures visited { Visited V.Visitor.takes visitor.old ((S.Store.meaning store.now).tables table) visitor.new }
+    ensures visited { Visited V.takes visitor.old ((S.meaning store.now).tables table) visitor.new }
 {
     let rows = store.count(table)?;
     for position in 0..rows {
@@ -37,9 +37,9 @@ pub fn visit_rows<S: Store, V: Visitor>(
 /// Copies the first `rows` rows of table `table` to the front of `out`.
 fn fill<S: Store>(store: &S, table: usize, rows: usize, out: &mut [Entry])
     requires table { is_table table ≡ true }
-    requires rows { rows ≤ length ((S.Store.meaning store.now).tables table) }
+    requires rows { rows ≤ length ((S.meaning store.now).tables table) }
     requires room { rows ≤ length out.old }
-    ensures { out.new ≡ take rows ((S.Store.meaning store.now).tables table) ++ drop rows out.old }
+    ensures { out.new ≡ take rows ((S.meaning store.now).tables table) ++ drop rows out.old }
 {
     for i in 0..rows {
         out[i] = entry_of(store, table, i);
@@ -49,8 +49,8 @@ fn fill<S: Store>(store: &S, table: usize, rows: usize, out: &mut [Entry])
 /// Copies all rows of table `table` to the front of `out`, in key order, and tells their count.
 /// Where `out` is too short it stays as it was.
 pub fn copy_rows<S: Store>(store: &S, table: usize, out: &mut [Entry]) -> Result<usize, Fault>
-    ensures answer { result ≡ copy_answer (S.Store.meaning store.now) table (length out.old) }
-    ensures after { out.new ≡ copy_after (S.Store.meaning store.now) table out.old }
+    ensures answer { result ≡ copy_answer (S.meaning store.now) table (length out.old) }
+    ensures after { out.new ≡ copy_after (S.meaning store.now) table out.old }
 {
     let rows = store.count(table)?;
     if out.len() < rows {

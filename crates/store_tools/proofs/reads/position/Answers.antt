@@ -1,4 +1,5 @@
 use Rattle.std.proofs.Common.{◌≡◌, ℕ, true, false, get_or, ℤ, ◌<ℤ◌, Some, None, Ok, sym, ap, ◌∙◌, subst, arith, w32, SFits, to_z, of_z, rules}
+use Rattle.std.proofs.lemmas.Cmp.{int_ranked}
 use Rattle.std.proofs.lemmas.Int.{to_z-of_z}
 use Rattle.std.proofs.lemmas.Bool.{cond-true, cond-false}
 use Rattle.store.specs.Meaning.{Meaning, is_table, holds, rank, no_entry, key_at}
@@ -24,7 +25,7 @@ loop-i-preserved g c =
     let f : SFits w32 c.in_ok-found.found = search rules in
     let r = key_read m c.args.table c.loop-i.i c.in_ok-found.found f c.in_ok-found.ensures in
     passed_more (to_z w32 (of_z w32 c.args.key)) (m.tables c.args.table) c.loop-i.i no_entry (omega (arith, n.1)) c.loop-i.invariant
-    (subst (λ z. z <ℤ to_z w32 (of_z w32 c.args.key)) r c.in-Less.ensures)
+    (subst (λ z. z <ℤ to_z w32 (of_z w32 c.args.key)) r (int_ranked _ _ _ c.in-Less.ensures))
 
 pub returns-in-Equal : goal.returns-in-Equal
 returns-in-Equal g c =
@@ -33,7 +34,7 @@ returns-in-Equal g c =
     let f : SFits w32 c.in_ok-found.found = search rules in
     let r = key_read m c.args.table c.loop-i.i c.in_ok-found.found f c.in_ok-found.ensures in
     yes_there m c.args.table c.loop-i.i c.args.key (to_z w32 (of_z w32 c.args.key)) (to_z-of_z w32 c.args.key c.ranges.key) n.0
-    (found_at (to_z w32 (of_z w32 c.args.key)) (m.tables c.args.table) c.loop-i.i no_entry (omega (arith, n.1)) c.loop-i.invariant (sym r ∙ c.in-Equal.ensures))
+    (found_at (to_z w32 (of_z w32 c.args.key)) (m.tables c.args.table) c.loop-i.i no_entry (omega (arith, n.1)) c.loop-i.invariant (sym r ∙ (int_ranked _ _ _ c.in-Equal.ensures)))
 
 pub returns-in-Greater : goal.returns-in-Greater
 returns-in-Greater g c =
@@ -43,7 +44,7 @@ returns-in-Greater g c =
     let r = key_read m c.args.table c.loop-i.i c.in_ok-found.found f c.in_ok-found.ensures in
     not_there m c.args.table c.args.key (to_z w32 (of_z w32 c.args.key)) (to_z-of_z w32 c.args.key c.ranges.key) n.0
     (missed_at (to_z w32 (of_z w32 c.args.key)) (m.tables c.args.table) c.loop-i.i no_entry (omega (arith, n.1)) c.loop-i.invariant
-    (subst (λ z. to_z w32 (of_z w32 c.args.key) <ℤ z) r c.in-Greater.ensures)).0
+    (subst (λ z. to_z w32 (of_z w32 c.args.key) <ℤ z) r (int_ranked _ _ _ c.in-Greater.ensures))).0
 
 pub returns : goal.returns
 returns g c =

@@ -4,8 +4,8 @@ use Rattle.store.proofs.Rows.{rank_le}
 use Rattle.store.proofs.Keeping.{taken, full}
 use Rattle.side_store.specs.Shifts.{opened}
 use Rattle.side_store.specs.Parts.{part, meant}
-use Rattle.side_store.proofs.Rooms.{held, fields, length_part, put_here, missed, found}
-use Rattle.side_store.proofs.store.SideStoreStore.put.Goals as goal
+use Rattle.side_store.proofs.Rooms.{held, counted, length_part, put_here, missed, found}
+use Rattle.side_store.proofs.tables.SideStoreStore.put.Goals as goal
 
 pub returns-in-Ok : goal.returns-in-Ok
 returns-in-Ok c =
@@ -41,4 +41,5 @@ invariant_of-self c =
     let p = put_here _ _ _ (held c.args.self.now) c.args.table (omega arith) (omega arith)
     (record { key = c.args.key; row = c.args.row }) c.insert.new.self.slots.now c.base-base.result c.in-Err.at c.base-base.ensures.value (omega (arith, c.rows.ensures.count, length_part _ _ _ (held c.args.self.now) (c.args.table - 1) (omega arith))) f
     (c.insert.ensures.slots ∙ ap (λ k. opened c.args.self.now.raw.slots.now (c.base-base.result + c.in-Err.at) (c.base-base.result + get_or c.args.self.now.raw.counts (c.args.table - 1) 0) (record { key = k; row = c.args.row })) (to_z-of_z w32 c.args.key c.ranges.key)) in
-    fields _ _ _ _ c.insert.ensures.counts p.2
+    let h = counted c.args.self.now.limit _ _ _ c.insert.ensures.counts p.2 in
+    record { limited = h.limited; size = h.size; width = h.width; within = h.within; ascends = h.ascends }

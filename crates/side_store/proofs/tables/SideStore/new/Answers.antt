@@ -1,7 +1,7 @@
 use Rattle.std.proofs.Common.{◌≡◌, ℕ, zero, suc, ◌-◌, ◌*◌, get_or, take, drop, replicate, refl, ap}
 use Rattle.store.proofs.Keeping.{storing_none}
 use Rattle.side_store.specs.Parts.{part}
-use Rattle.side_store.proofs.store.SideStore.new.Goals as goal
+use Rattle.side_store.proofs.tables.SideStore.new.Goals as goal
 
 zeros : (n u : ℕ) → ◌≡◌ {A = ℕ} (get_or (replicate n 0) u 0) 0
 zeros zero u = refl

@@ -1,6 +1,6 @@
 use Rattle.std.proofs.Common.{◌-◌, ◌<◌, refl, arith}
 use Rattle.side_store.proofs.Rooms.{inside}
-use Rattle.side_store.proofs.store.SideStore.base.Goals as goal
+use Rattle.side_store.proofs.tables.SideStore.base.Goals as goal
 
 pub returns : goal.returns
 returns c =

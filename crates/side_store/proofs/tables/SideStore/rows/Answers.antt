@@ -1,7 +1,7 @@
 use Rattle.std.proofs.Common.{◌-◌, sym, arith}
 use Rattle.store.proofs.Keeping.{lawful}
 use Rattle.side_store.proofs.Rooms.{held, kept, length_part}
-use Rattle.side_store.proofs.store.SideStore.rows.Goals as goal
+use Rattle.side_store.proofs.tables.SideStore.rows.Goals as goal
 
 pub returns : goal.returns
 returns c = record {

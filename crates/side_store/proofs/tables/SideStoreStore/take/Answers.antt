@@ -3,8 +3,8 @@ use Rattle.store.proofs.Rows.{rank_lt}
 use Rattle.store.proofs.Calls.{limit_from}
 use Rattle.store.proofs.Keeping.{absent}
 use Rattle.side_store.specs.Parts.{part, meant}
-use Rattle.side_store.proofs.Rooms.{held, fields, length_part, take_here, missed, found}
-use Rattle.side_store.proofs.store.SideStoreStore.take.Goals as goal
+use Rattle.side_store.proofs.Rooms.{held, counted, length_part, take_here, missed, found}
+use Rattle.side_store.proofs.tables.SideStoreStore.take.Goals as goal
 
 pub returns-in-Err : goal.returns-in-Err
 returns-in-Err c =
@@ -45,7 +45,8 @@ invariant_of-self c =
     let f = found c.args.key (part c.args.self.now.limit c.args.self.now.raw.counts c.args.self.now.raw.slots.now (c.args.table - 1)) c.in-Ok.at c.ranges.key c.in-Ok.ensures in
     let p = take_here _ _ _ (held c.args.self.now) c.args.table (omega arith) (omega arith)
     c.args.key _ c.remove.new.self.slots.now c.base-base.result c.in-Ok.at c.base-base.ensures.value f refl c.remove.ensures.slots in
-    fields _ _ _ _ c.remove.ensures.counts p.2
+    let h = counted c.args.self.now.limit _ _ _ c.remove.ensures.counts p.2 in
+    record { limited = h.limited; size = h.size; width = h.width; within = h.within; ascends = h.ascends }
 
 pub offset_bounds-self-base : goal.offset_bounds-self-base
 offset_bounds-self-base c =

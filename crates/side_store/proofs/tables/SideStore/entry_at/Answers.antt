@@ -3,7 +3,7 @@ use Rattle.store.specs.Meaning.{no_entry}
 use Rattle.store.proofs.Keeping.{entry_there, entry_none}
 use Rattle.side_store.specs.Parts.{part}
 use Rattle.side_store.proofs.Rooms.{held, length_part, get_d_part}
-use Rattle.side_store.proofs.store.SideStore.entry_at.Goals as goal
+use Rattle.side_store.proofs.tables.SideStore.entry_at.Goals as goal
 
 pub returns-then-position-self : goal.returns-then-position-self
 returns-then-position-self c =

@@ -1,7 +1,7 @@
 use Rattle.std.proofs.Common.{◌≡◌, ◌+◌, ◌-◌, get_or, take, drop, ap, ◌∙◌, arith, w32}
 use Rattle.std.proofs.lemmas.Int.{to_z-of_z}
 use Rattle.store.specs.Meaning.{sought}
-use Rattle.side_store.proofs.store.SideStore.find.Goals as goal
+use Rattle.side_store.proofs.tables.SideStore.find.Goals as goal
 
 pub returns : goal.returns
 returns c =
