@@ -1,5 +1,7 @@
 //! Chains of cells in lent memory: each cell has the number of the next one, and zero ends a chain.
 //! Several chains share one run of cells; chain 0 has the cells that are free.
+#![tactic(auto)]
+
 mod cells;
 mod chains;
 

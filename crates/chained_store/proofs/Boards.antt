@@ -4,13 +4,13 @@ use Rattle.std.proofs.lemmas.List.{length-map, get_or-map}
 use Rattle.std.proofs.lemmas.Int.{to_z-of_z}
 use Rattle.std.proofs.lemmas.Bool.{cases_eq, eq-eqb, ne_eqb, cond-true, cond-false}
 use Rattle.chain.specs.declared.cells.Cell.{Cell}
-use Rattle.chain.specs.Lists.{Sound, Leads, Inside, Apart, Total, sum_to, pointers, nodes_of, free, prior}
+use Rattle.chain.specs.Lists.{Sound, sum_to, pointers, nodes_of, free, prior}
 use Rattle.chain.proofs.Links.{sum_less}
 use Rattle.chain.proofs.Slots.{length_pointers}
 use Rattle.store.specs.declared.Entry.{Entry}
-use Rattle.store.specs.Meaning.{is_limit, ascending, holds, rank, no_entry}
+use Rattle.store.specs.Meaning.{holds, rank, no_entry}
 use Rattle.store.proofs.Keeping.{Kept}
-use Rattle.chained_store.specs.declared.store.ChainedStore.{ChainedStore}
+use Rattle.chained_store.specs.declared.tables.ChainedStore.{ChainedStore}
 use Rattle.chained_store.specs.Tables.{rows_of, spot}
 
 -- what a store keeps of its limit, heads and cells
@@ -27,16 +27,6 @@ held s = record {
   width = s.width;
   kept = record { limited = s.limited; ascends = s.ascends; within = s.within };
 }
-
--- the ghost fields again
-abbrev pub Fields : ℕ → List ℕ → List (Cell Entry) → Type 0
-Fields limit heads cells =
-    (is_limit limit ≡ true) × ((length cells ≡ 8 * limit) × ((length heads ≡ 9) × (Leads (length heads) (pointers heads cells) × (Inside (length heads) (pointers heads cells)
-    × (Apart (length heads) (pointers heads cells) × (Total (length heads) (pointers heads cells) × (((t : ℕ) → 1 ≤ t → t ≤ 8 → length (rows_of heads cells t) ≤ limit)
-    × (((t : ℕ) → 1 ≤ t → t ≤ 8 → ascending (rows_of heads cells t) ≡ true) × Unit {0}))))))))
-
-pub fields : (limit : ℕ) (heads : List ℕ) (cells : List (Cell Entry)) → Sound heads cells → length cells ≡ 8 * limit → length heads ≡ 9 → Kept limit (rows_of heads cells) → Fields limit heads cells
-fields limit heads cells s size width k = (k.limited, (size, (width, (s.leads, (s.inside, (s.apart, (s.total, (k.within, (k.ascends, tt)))))))))
 
 pub length_rows : (heads : List ℕ) (cells : List (Cell Entry)) (t : ℕ) → length (rows_of heads cells t) ≡ length (nodes_of heads cells t)
 length_rows heads cells t = length-map (nodes_of heads cells t) _

@@ -1,6 +1,8 @@
 //! A store whose tables have their rows in chained records.
+#![tactic(auto)]
+
 mod records;
-mod store;
+mod tables;
 
 pub use records::{CHAINS, free_records};
-pub use store::ChainedStore;
+pub use tables::ChainedStore;

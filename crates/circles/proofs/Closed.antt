@@ -1,5 +1,5 @@
 -- Where no table waits any more, the marked tables are those that the start leads to.
-use Rattle.std.proofs.Common.{◌≡◌, ℕ, ◌<◌, Bool, true, false, ◌⊎◌, List, [], ◌∷◌, ◌++◌, length, set, replicate, sym, refl, subst, ⊎_elim}
+use Rattle.std.proofs.Common.{◌≡◌, ℕ, ◌<◌, Bool, true, false, List, [], ◌∷◌, ◌++◌, length, set, replicate, sym, refl, subst, ⊎_elim}
 use Rattle.circles.specs.declared.Link.{Link}
 use Rattle.circles.specs.Ways.{Follows, Way, Leads}
 use Rattle.circles.specs.Visits.{Has, Step, Marked}

@@ -1,5 +1,5 @@
 -- What an answer says of the table that it names.
-use Rattle.std.proofs.Common.{◌≡◌, ℕ, ◌⊎◌, List, Some, None, Option, refl, ap, subst, ⊎_elim}
+use Rattle.std.proofs.Common.{◌≡◌, ℕ, List, Some, None, Option, refl, ap, subst, ⊎_elim}
 use Rattle.std.proofs.lemmas.Bool.{cases_order}
 use Rattle.circles.specs.declared.Link.{Link}
 use Rattle.circles.specs.Ways.{IsTable}

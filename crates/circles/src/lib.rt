@@ -1,4 +1,6 @@
 //! Which table is the first that leads back to itself by one or more references.
+#![tactic(auto)]
+
 ghost use Rattle.std.specs.Prelude.{◌≡◌, ℕ, ◌<◌, ◌≤◌, true, false, Some, None, MatchBool, slice_index_or, slice_set};
 ghost use Rattle.circles.specs.Circles.{OnCircle, NoCircle, First, Answers};
 ghost use Rattle.circles.specs.Ways.{IsTable, Leads, Follows};

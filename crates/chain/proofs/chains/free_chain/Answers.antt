@@ -31,7 +31,7 @@ take_after-requires g c =
       sound = c.loop-heads.invariant.0;
       from = c.requires.from;
       to = to;
-      at = (0, (zero-le, refl), has_first c.loop-heads.heads c.loop-heads.cells c.args.chain c.after.result c.loop-heads.invariant.0 to c.after.ensures c.loop-heads-test.true);
+      at = (0, (zero-le, refl), has_first c.loop-heads.heads c.loop-heads.cells c.args.chain c.after.result c.loop-heads.invariant.0 to c.after.ensures (λ e. absurd (omega arith)));
     }
 
 pub loop-heads-init : goal.loop-heads-init
@@ -39,13 +39,13 @@ loop-heads-init g c = (c.requires.sound, λ _ _ _ _ _. refl, refl)
 
 pub loop-heads-smaller : goal.loop-heads-smaller
 loop-heads-smaller g c =
-    let some = has_first c.loop-heads.heads c.loop-heads.cells c.args.chain c.after.result c.loop-heads.invariant.0 (omega arith) c.after.ensures c.loop-heads-test.true in
+    let some = has_first c.loop-heads.heads c.loop-heads.cells c.args.chain c.after.result c.loop-heads.invariant.0 (omega arith) c.after.ensures (λ e. absurd (omega arith)) in
     let one = shorter c.take_after.result c.loop-heads.heads c.take_after.new.heads c.loop-heads.cells c.take_after.new.cells c.args.chain (c.take_after.ensures.here 0 c.take_after.result (zero-le, refl) some) some in
     omega (arith, one)
 
 pub loop-heads-preserved : goal.loop-heads-preserved
 loop-heads-preserved g c =
-    let some = has_first c.loop-heads.heads c.loop-heads.cells c.args.chain c.after.result c.loop-heads.invariant.0 (omega arith) c.after.ensures c.loop-heads-test.true in
+    let some = has_first c.loop-heads.heads c.loop-heads.cells c.args.chain c.after.result c.loop-heads.invariant.0 (omega arith) c.after.ensures (λ e. absurd (omega arith)) in
     let one = shorter c.take_after.result c.loop-heads.heads c.take_after.new.heads c.loop-heads.cells c.take_after.new.cells c.args.chain (c.take_after.ensures.here 0 c.take_after.result (zero-le, refl) some) some in (
       c.take_after.ensures.sound,
       λ i d lo hi ne. c.take_after.ensures.there i d lo (omega arith) ne ∙ c.loop-heads.invariant.1 i d lo hi ne,
@@ -57,5 +57,5 @@ returns g c =
     let to : c.args.chain < length c.loop-heads.heads = omega arith in
     let none = none_left (nodes_of c.loop-heads.heads c.loop-heads.cells c.args.chain)
     (node_end c.loop-heads.heads c.loop-heads.cells c.loop-heads.invariant.0 c.args.chain 0 to
-    (sym (c.after.ensures ∙ first_node c.loop-heads.heads c.loop-heads.cells c.loop-heads.invariant.0 c.args.chain to) ∙ c.loop-heads-test.false)) in
+    (omega (arith, c.after.ensures, first_node c.loop-heads.heads c.loop-heads.cells c.loop-heads.invariant.0 c.args.chain to))) in
     record { sound = c.loop-heads.invariant.0; here = none; there = c.loop-heads.invariant.1; free = omega (arith, c.loop-heads.invariant.2, ap length none) }

@@ -1,4 +1,5 @@
 use Rattle.std.proofs.Common.{◌≡◌, ℕ, suc, ◌+◌, ◌-◌, ◌<◌, List, map, length, get_or, ◌<ℤ◌, sym, ap, ◌∙◌, subst, arith, w32, to_z, of_z}
+use Rattle.std.proofs.lemmas.Cmp.{int_ranked}
 use Rattle.std.proofs.lemmas.Int.{to_z-of_z}
 use Rattle.chain.specs.declared.cells.Cell.{Cell}
 use Rattle.chain.specs.Lists.{Sound, nodes_of, pointers, slot_of, prior}
@@ -38,7 +39,7 @@ loop-i-preserved c =
     let turn = at_turn c.args.heads.now c.args.cells.now c.args.table c.loop-i.i c.loop-i.before c.after-node.result c.element-entry.result c.requires.sound c.requires.table lt c.loop-i.invariant.0 c.after-node.ensures (c.element-entry.ensures no_entry) in
     let one : suc c.loop-i.i ≡ c.loop-i.i + 1 = omega arith in (
       turn.0 ∙ ap (λ j. prior (nodes_of c.args.heads.now c.args.cells.now c.args.table) j) one,
-      passed_more (to_z w32 (of_z w32 c.args.key)) (rows_of c.args.heads.now c.args.cells.now c.args.table) c.loop-i.i no_entry (omega arith) c.loop-i.invariant.1 (subst (λ z. z <ℤ to_z w32 (of_z w32 c.args.key)) (ap (λ e. e.key) turn.1) c.in-Less.ensures),
+      passed_more (to_z w32 (of_z w32 c.args.key)) (rows_of c.args.heads.now c.args.cells.now c.args.table) c.loop-i.i no_entry (omega arith) c.loop-i.invariant.1 (subst (λ z. z <ℤ to_z w32 (of_z w32 c.args.key)) (ap (λ e. e.key) turn.1) (int_ranked _ _ _ c.in-Less.ensures)),
     )
 
 pub returns-in-Equal : goal.returns-in-Equal
@@ -47,7 +48,7 @@ returns-in-Equal c =
     let lt : c.loop-i.i < length (nodes_of c.args.heads.now c.args.cells.now c.args.table) = omega (arith, c.count-i-end.ensures) in
     let turn = at_turn c.args.heads.now c.args.cells.now c.args.table c.loop-i.i c.loop-i.before c.after-node.result c.element-entry.result c.requires.sound c.requires.table lt c.loop-i.invariant.0 c.after-node.ensures (c.element-entry.ensures no_entry) in
     spot_found (to_z w32 (of_z w32 c.args.key)) (nodes_of c.args.heads.now c.args.cells.now c.args.table) (rows_of c.args.heads.now c.args.cells.now c.args.table) c.loop-i.i c.loop-i.before c.loop-i.invariant.0
-    (found_at (to_z w32 (of_z w32 c.args.key)) (rows_of c.args.heads.now c.args.cells.now c.args.table) c.loop-i.i no_entry (omega arith) c.loop-i.invariant.1 (sym (ap (λ e. e.key) turn.1) ∙ c.in-Equal.ensures))
+    (found_at (to_z w32 (of_z w32 c.args.key)) (rows_of c.args.heads.now c.args.cells.now c.args.table) c.loop-i.i no_entry (omega arith) c.loop-i.invariant.1 (sym (ap (λ e. e.key) turn.1) ∙ (int_ranked _ _ _ c.in-Equal.ensures)))
     ∙ ap (λ k. spot k (nodes_of c.args.heads.now c.args.cells.now c.args.table) (rows_of c.args.heads.now c.args.cells.now c.args.table)) (to_z-of_z w32 c.args.key c.ranges.key)
 
 pub returns-in-Greater : goal.returns-in-Greater
@@ -56,7 +57,7 @@ returns-in-Greater c =
     let lt : c.loop-i.i < length (nodes_of c.args.heads.now c.args.cells.now c.args.table) = omega (arith, c.count-i-end.ensures) in
     let turn = at_turn c.args.heads.now c.args.cells.now c.args.table c.loop-i.i c.loop-i.before c.after-node.result c.element-entry.result c.requires.sound c.requires.table lt c.loop-i.invariant.0 c.after-node.ensures (c.element-entry.ensures no_entry) in
     spot_missed (to_z w32 (of_z w32 c.args.key)) (nodes_of c.args.heads.now c.args.cells.now c.args.table) (rows_of c.args.heads.now c.args.cells.now c.args.table) c.loop-i.i c.loop-i.before c.loop-i.invariant.0
-    (missed_at (to_z w32 (of_z w32 c.args.key)) (rows_of c.args.heads.now c.args.cells.now c.args.table) c.loop-i.i no_entry (omega arith) c.loop-i.invariant.1 (subst (λ z. to_z w32 (of_z w32 c.args.key) <ℤ z) (ap (λ e. e.key) turn.1) c.in-Greater.ensures))
+    (missed_at (to_z w32 (of_z w32 c.args.key)) (rows_of c.args.heads.now c.args.cells.now c.args.table) c.loop-i.i no_entry (omega arith) c.loop-i.invariant.1 (subst (λ z. to_z w32 (of_z w32 c.args.key) <ℤ z) (ap (λ e. e.key) turn.1) (int_ranked _ _ _ c.in-Greater.ensures)))
     ∙ ap (λ k. spot k (nodes_of c.args.heads.now c.args.cells.now c.args.table) (rows_of c.args.heads.now c.args.cells.now c.args.table)) (to_z-of_z w32 c.args.key c.ranges.key)
 
 pub returns : goal.returns

@@ -4,8 +4,8 @@ use Rattle.store.specs.Meaning.{rank}
 use Rattle.store.proofs.Rows.{rank_lt}
 use Rattle.store.proofs.Keeping.{take_here}
 use Rattle.chained_store.specs.Tables.{rows_of}
-use Rattle.chained_store.proofs.Boards.{held, fields, length_rows, found}
-use Rattle.chained_store.proofs.store.ChainedStoreStore.take.Goals as goal
+use Rattle.chained_store.proofs.Boards.{held, length_rows, found}
+use Rattle.chained_store.proofs.tables.ChainedStoreStore.take.Goals as goal
 
 pub remove-entry-requires : goal.remove-entry-requires
 remove-entry-requires c =
@@ -43,4 +43,5 @@ invariant_of-self c =
     (rows_of c.remove-entry.new.self.heads c.remove-entry.new.self.cells.now) (λ v a b ne. c.remove-entry.ensures.there v a (omega arith) ne) c.args.key c.remove-entry.result.row f.0
     (ap (λ e. e.row) (c.remove-entry.ensures.answer (rank c.args.key (rows_of c.args.self.now.raw.heads c.args.self.now.raw.cells.now c.args.table)) before (omega arith)))
     (c.remove-entry.ensures.here (rank c.args.key (rows_of c.args.self.now.raw.heads c.args.self.now.raw.cells.now c.args.table)) before (omega arith)) in
-    fields _ _ _ c.remove-entry.ensures.sound (c.remove-entry.ensures.size ∙ c.args.self.now.size) c.remove-entry.ensures.width p.2
+    let sound = c.remove-entry.ensures.sound in
+    record { limited = p.2.limited; size = c.remove-entry.ensures.size ∙ c.args.self.now.size; width = c.remove-entry.ensures.width; leads = sound.leads; inside = sound.inside; apart = sound.apart; total = sound.total; within = p.2.within; ascends = p.2.ascends }

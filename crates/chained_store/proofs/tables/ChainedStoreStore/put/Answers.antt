@@ -6,8 +6,8 @@ use Rattle.store.specs.Meaning.{rank}
 use Rattle.store.proofs.Rows.{rank_le}
 use Rattle.store.proofs.Keeping.{put_here}
 use Rattle.chained_store.specs.Tables.{rows_of}
-use Rattle.chained_store.proofs.Boards.{held, fields, length_rows, room, missed}
-use Rattle.chained_store.proofs.store.ChainedStoreStore.put.Goals as goal
+use Rattle.chained_store.proofs.Boards.{held, length_rows, room, missed}
+use Rattle.chained_store.proofs.tables.ChainedStoreStore.put.Goals as goal
 
 pub insert-requires : goal.insert-requires
 insert-requires c =
@@ -40,4 +40,5 @@ invariant_of-self c =
     (rows_of c.insert.new.self.heads c.insert.new.self.cells.now) (λ v a b ne. c.insert.ensures.there v a (omega arith) ne) (record { key = c.args.key; row = c.args.row }) f.0 (omega (arith, c.rows.ensures))
     (c.insert.ensures.here (rank c.args.key (rows_of c.args.self.now.raw.heads c.args.self.now.raw.cells.now c.args.table)) before
     ∙ ap (λ k. insert (rows_of c.args.self.now.raw.heads c.args.self.now.raw.cells.now c.args.table) (rank c.args.key (rows_of c.args.self.now.raw.heads c.args.self.now.raw.cells.now c.args.table)) (record { key = k; row = c.args.row })) (to_z-of_z w32 c.args.key c.ranges.key)) in
-    fields _ _ _ c.insert.ensures.sound (c.insert.ensures.size ∙ c.args.self.now.size) c.insert.ensures.width p.2
+    let sound = c.insert.ensures.sound in
+    record { limited = p.2.limited; size = c.insert.ensures.size ∙ c.args.self.now.size; width = c.insert.ensures.width; leads = sound.leads; inside = sound.inside; apart = sound.apart; total = sound.total; within = p.2.within; ascends = p.2.ascends }
