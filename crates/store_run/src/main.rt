@@ -1,5 +1,7 @@
 //! Drives both stores and a plain sorted `Vec` through the same puts and takes, and compares every answer and content.
 //! With the argument `time` it tells the time of a put and of a take instead.
+#![tactic(auto)]
+
 mod plain;
 mod rounds;
 mod steps;
@@ -72,7 +74,7 @@ fn compare(rt: &HostRuntime) -> io::Result<()> {
 fn main(rt: HostRuntime) -> io::Result<()> {
     let mut timed = false;
     for arg in env::args(&rt)? {
-        if arg == "time" {
+        if arg.as_str() == "time" {
             timed = true;
         }
     }
