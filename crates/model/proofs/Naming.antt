@@ -1,11 +1,10 @@
 -- Parts of a text, elements by their numbers, and names looked for one by one.
-use Rattle.std.proofs.Common.{◌≡◌, ℕ, zero, suc, ◌+◌, ◌-◌, ◌<◌, ◌≤◌, min, cond, ◌⊎◌, List, [], ◌∷◌, length, get_or, take, drop, Some, None, Option, sym, refl, ap, ◌∙◌, inl, inr, ⊎_elim, add-one, arith}
+use Rattle.std.proofs.Common.{◌≡◌, ℕ, zero, suc, ◌+◌, ◌-◌, ◌<◌, ◌≤◌, min, cond, ◌⊎◌, List, [], ◌∷◌, length, get_or, take, drop, Some, None, sym, refl, ap, ◌∙◌, inl, inr, ⊎_elim, add-one, arith}
 use native.Mathlib.Nat.{min-eq_left, min-eq_right}
-use Rattle.std.proofs.lemmas.List.{take_all, drop_all, length-drop, at_drop_more, drop_more}
+use Rattle.std.proofs.lemmas.List.{take_all, drop_all, length-drop, at_drop_more}
 use Rattle.std.proofs.lemmas.Bool.{cases_lt}
 use Rattle.std.specs.List.{slice_get}
 use Rattle.std.specs.Str.{bytes_eq}
-use Rattle.model.specs.declared.schema.Name.{Name}
 use Rattle.model.specs.declared.schema.Variable.{Variable}
 use Rattle.model.specs.Names.{part, by_number, named_from}
 

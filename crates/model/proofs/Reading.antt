@@ -1,5 +1,5 @@
 -- Items and lines of what is written read back as what it stands for.
-use Rattle.std.proofs.Common.{◌≡◌, ℕ, zero, suc, ◌+◌, ◌<◌, ◌≤◌, max, Bool, true, false, cond, List, [], ◌∷◌, ◌++◌, map, length, get_or, drop, Some, None, Option, sym, refl, ap, ◌∙◌, subst, append_assoc, append-nil, arith}
+use Rattle.std.proofs.Common.{◌≡◌, ℕ, zero, suc, ◌+◌, ◌<◌, ◌≤◌, true, false, cond, List, [], ◌∷◌, ◌++◌, map, length, get_or, drop, Some, None, Option, sym, refl, ap, ◌∙◌, append_assoc, append-nil, arith}
 use mathlib.Core.Option as maybe
 use Rattle.std.proofs.lemmas.List.{drop-drop, length-append}
 use Rattle.std.proofs.lemmas.List.Prefix.{front_rest}
@@ -9,11 +9,10 @@ use Rattle.terms.specs.Trees as tree
 use Rattle.syntax.specs.Trees as written
 use Rattle.meaning.specs.Syntax.{var, att, Block, stop, ◌⨾◌, silent, write, branch, while}
 use Rattle.meaning.specs.Syntax as syntax
-use Rattle.model.specs.declared.program.Operator.{Operator}
 use Rattle.model.specs.declared.program.Item.{Item}
-use Rattle.model.specs.declared.program.Item.TheVariants.{Open, Close, Sign, Number, Integer, Attribute, Head, Cell, Truth, Nil}
-use Rattle.model.specs.Machine.{Worth, Bracket, State, Read, at, opened, ended, run, term}
-use Rattle.model.specs.Terms.{Term, nothing, expression, condition, as_expression, as_condition, atom, apply, trees, expressions, expression_at, condition_at}
+use Rattle.model.specs.declared.program.Item.TheVariants.{Close, Sign, Integer, Attribute, Nil}
+use Rattle.model.specs.Machine.{Bracket, State, Read, at, opened, ended, run, term}
+use Rattle.model.specs.Terms.{Term, nothing, expression, as_expression, as_condition, trees, expressions, expression_at, condition_at}
 use Rattle.model.specs.Elaborate.{Dictionary, operator_of, lone, term_of, expression_of, condition_of, act_of, statement_of, block_of}
 use Rattle.model.specs.Flat.{size, lone_item, items_of, values_items, act_items, simple_items, block_items, act_line, simple_line, block_lines}
 use Rattle.model.specs.Program.{caught_by, block_from, blocks, block_at}

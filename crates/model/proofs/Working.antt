@@ -1,9 +1,9 @@
 -- What is worked out item by item is the value or the truth of the tree that the items stand for.
-use Rattle.std.proofs.Common.{◌≡◌, ℕ, Bool, true, false, cond, not, List, ℤ, pos, sym, refl, ap, ◌∙◌}
-use mathlib.Core.Option.{Option, none, some}
+use Rattle.std.proofs.Common.{◌≡◌, ℕ, true, false, not, pos, refl, ap, ◌∙◌}
+use mathlib.Core.Option.{Option, some}
 use Rattle.meaning.specs.Values.{bind, Op, add, sub, mul, div, operate, negate, Order, less, same, more, compares, Connective, and, or, connect}
 use Rattle.meaning.specs.Evaluation.{Env, Row, value, truth}
-use Rattle.meaning.specs.Syntax.{num, op, neg, con, cmp, non}
+use Rattle.meaning.specs.Syntax.{op, con, cmp}
 use Rattle.model.specs.declared.program.Operator.{Operator}
 use Rattle.model.specs.declared.program.Operator.TheVariants.{Plus, Minus, Times, Over, Less, Equal, More, And, Or, Not}
 use Rattle.model.specs.declared.program.Item.{Item}
@@ -12,7 +12,7 @@ use Rattle.model.specs.Machine.{term}
 use Rattle.model.specs.Terms.{Term, nothing, expression, condition, as_expression, as_condition, minus, apply, atom, trees}
 use Rattle.model.specs.Working.{Worked, number, fact, as_number, as_fact, computed, compared, joined, combined, single, worths}
 use Rattle.model.specs.Laws.{WorksOut}
-use Rattle.model.proofs.Mapping.{Maps, map_read, reads_alike}
+use Rattle.model.proofs.Mapping.{Maps, reads_alike}
 
 module _ (η : Env ℕ ℕ ℕ) (r : Option Row) where
   -- What a term comes to.

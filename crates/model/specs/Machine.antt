@@ -1,5 +1,5 @@
 -- Items read from left to right with the open brackets on a stack, whatever the worth of a part may be: a tree, or the value that it comes to.
-use Rattle.std.specs.Prelude.{ℕ, cond, List, [], ◌∷◌, length, Some, None, Option, nat_lt}
+use Rattle.std.specs.Prelude.{cond, List, [], ◌∷◌, length, Some, None, Option, nat_lt}
 use Rattle.model.specs.declared.program.Operator.{Operator}
 use Rattle.model.specs.declared.program.Item.{Item}
 use Rattle.model.specs.declared.program.Item.TheVariants.{Open, Close, Sign, Number, Integer, Attribute, Head, Cell, Truth, Nil}

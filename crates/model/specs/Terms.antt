@@ -1,5 +1,5 @@
 -- The expression or the condition that items stand for.
-use Rattle.std.specs.Prelude.{ℕ, zero, suc, Bool, cond, List, [], ◌∷◌, drop, pos}
+use Rattle.std.specs.Prelude.{ℕ, zero, suc, cond, List, [], ◌∷◌, drop, pos}
 use Rattle.meaning.specs.Values.{add, sub, mul, div, less, same, more, and, or}
 use Rattle.meaning.specs.Syntax.{Expression, num, var, att, head, get, op, neg, Condition, tru, fls, con, non, cmp, nil}
 use Rattle.model.specs.declared.program.Operator.{Operator}

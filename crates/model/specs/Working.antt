@@ -1,5 +1,5 @@
 -- What items come to when they are worked out one by one.
-use Rattle.std.proofs.Math.Option.{Option, none, some}
+use Rattle.std.proofs.Math.Option.{Option, some}
 use Rattle.std.specs.Prelude.{ℕ, Bool, false, not, ℤ, pos}
 use Rattle.meaning.specs.Values.{bind, first, is_nil, Op, add, sub, mul, div, operate, Order, less, same, more, compares, Connective, and, or, connect}
 use Rattle.meaning.specs.Evaluation.{Env, Row, attr}

@@ -1,7 +1,6 @@
-use Rattle.std.proofs.Common.{◌≡◌, suc, ◌+◌, drop, sym, ap, ◌∙◌, arith}
+use Rattle.std.proofs.Common.{sym, ◌∙◌, arith}
 use Rattle.std.proofs.lemmas.Bool.{cond-true, cond-false}
 use Rattle.model.specs.declared.program.Line.TheVariants.{Assign}
-use Rattle.model.specs.Lines.{statements}
 use Rattle.model.proofs.Counting.{statements_more, statements_all}
 use Rattle.model.proofs.statements.count_statements.Goals.{then-is_statement, else-is_statement}
 use Rattle.model.proofs.statements.count_statements.Goals as goal
