@@ -12,7 +12,8 @@ front n xs ys e = (
 
 pub returns : goal.returns
 returns c =
-    let size : length c.free_all.new.cells ≡ c.args.records = c.free_all.auto.cells ∙ length-take-le c.args.records c.args.cells.now c.requires in
+    let long = length-take-le c.args.records c.args.cells.now c.requires in
+    let size : length c.free_all.new.cells ≡ c.args.records = omega (arith, c.free_all.auto.cells, long) in
     let f = front c.args.records c.free_all.new.cells (drop c.args.records c.args.cells.now) size in
     record {
       width = c.free_all.auto.heads;
