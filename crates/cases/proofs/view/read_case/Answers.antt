@@ -1,5 +1,5 @@
-use Rattle.std.proofs.Common.{◌≡◌, length, Ok, Err, sym, refl, ap, ◌∙◌}
-use Rattle.std.proofs.lemmas.Result.{err_from_is_err_and, IfOk-from_err}
+use Rattle.std.proofs.Common.{length, Ok, Err, sym, refl}
+use Rattle.std.proofs.lemmas.Result.{err_from_is_err_and}
 use Rattle.cases.proofs.Walks.{verdict_size, verdict_words, verdict_chains}
 use Rattle.cases.proofs.view.read_case.Goals as goal
 
