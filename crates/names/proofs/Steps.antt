@@ -1,14 +1,13 @@
 -- Binding one part after another.
-use Rattle.std.proofs.Common.{◌≡◌, ℕ, ◌+◌, ◌-◌, ◌<◌, ◌≤◌, Bool, true, false, cond, ◌⊎◌, List, [], ◌∷◌, length, get_or, take, drop, is_some, Some, None, Ok, Err, Option, Result, sym, refl, ap, ◌∙◌, subst, inl, inr, ⊎_elim, arith}
+use Rattle.std.proofs.Common.{◌≡◌, ℕ, ◌+◌, ◌-◌, ◌<◌, ◌≤◌, Bool, true, false, cond, List, length, get_or, take, drop, is_some, Some, None, Ok, Option, Result, sym, refl, ap, ◌∙◌, inl, inr, arith}
 use Rattle.std.proofs.lemmas.List.{at_drop_more, take_rest}
-use Rattle.std.proofs.lemmas.Bool.{cond-true, cond-false}
 use Rattle.faults.specs.declared.Fault.{Fault}
 use Rattle.lexer.specs.declared.signs.Sign.TheVariants.{Semicolon}
 use Rattle.terms.specs.Pull.{and_then, is_sign}
 use Rattle.roles.specs.declared.role.Part.{Part}
 use Rattle.names.specs.declared.scope.Scope.{Scope}
 use Rattle.names.specs.Schema.{Decl, name_of, no_part}
-use Rattle.names.specs.Scopes.{table_is, opened, scope_from, scope_after}
+use Rattle.names.specs.Scopes.{opened, scope_from, scope_after}
 use Rattle.names.specs.Binding.{Names, bound_as, bound_from, Fails}
 use Rattle.names.specs.Onward.{left_of, outside}
 

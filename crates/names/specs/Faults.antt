@@ -1,5 +1,5 @@
 -- Which names of a model are at fault.
-use Rattle.std.specs.Prelude.{ℕ, zero, suc, ◌+◌, Bool, true, false, cond, not, ◌&&◌, ◌||◌, List, [], ◌∷◌, length, get_or, Some, None, Option, ◌==◌, slice_index_or}
+use Rattle.std.specs.Prelude.{ℕ, ◌+◌, Bool, true, false, cond, not, ◌&&◌, ◌||◌, List, [], ◌∷◌, Some, None, Option, ◌==◌, slice_index_or}
 use Rattle.std.specs.Bool.{beq}
 use Rattle.lexer.specs.declared.signs.Sign.TheVariants.{Semicolon, Comma}
 use Rattle.terms.specs.Pull.{is_sign}
@@ -100,7 +100,7 @@ abbrev pub variable_wrong : List ℕ → Decl → List Known → Name → List P
 variable_wrong text d ks n ps u bound.Free = false
 variable_wrong text d ks n ps u bound.Unknown = false
 variable_wrong text d ks n ps u (bound.Variable x) =
-    not (table_number text d n == 0) || (not (kind_number (get_or ks x no_known).kind == kind_number (kind_of u)) || select_wrong text d (slice_index_or ks x no_known) ps u)
+    not (table_number text d n == 0) || (not (kind_number (slice_index_or ks x no_known).kind == kind_number (kind_of u)) || select_wrong text d (slice_index_or ks x no_known) ps u)
 variable_wrong text d ks n ps u (bound.Table t) = false
 variable_wrong text d ks n ps u (bound.Attribute k) = false
 
@@ -140,7 +140,7 @@ is_picked text d (Some c) n = picked_at c (field_place text d c.table n)
 abbrev pub column_wrong : List ℕ → Decl → List Known → Spot → Name → Bound → Column → Bool
 column_wrong text d ks s n b column.Pick = is_unknown b
 column_wrong text d ks s n b column.Set = is_unknown b
-column_wrong text d ks s n b column.Cell = not (is_picked text d (get_or ks s.cursor no_known).choice n)
+column_wrong text d ks s n b column.Cell = not (is_picked text d (slice_index_or ks s.cursor no_known).choice n)
 
 -- A part whose name is at fault, with the parts behind it.
 abbrev pub wrong : List ℕ → Decl → List Known → Spot → Name → List Part → Bound → Role → Bool

@@ -1,14 +1,10 @@
 -- Where a name stands, and which clause's table hides lone variables there.
-use Rattle.std.specs.Prelude.{ℕ, zero, suc, ◌+◌, Bool, true, false, cond, List, [], ◌∷◌, replicate, Some, None, Option, nat_lt, slice_set}
+use Rattle.std.specs.Prelude.{ℕ, ◌+◌, Bool, true, false, cond, List, [], ◌∷◌, replicate, Some, None, Option, nat_lt, slice_set}
 use Rattle.lexer.specs.declared.signs.Sign.TheVariants.{Semicolon}
 use Rattle.terms.specs.Pull.{is_sign}
-use Rattle.roles.specs.declared.role.Declared.{Declared}
 use Rattle.roles.specs.declared.role.Declared.TheVariants as declares
-use Rattle.roles.specs.declared.role.Use.{Use}
 use Rattle.roles.specs.declared.role.Use.TheVariants as use_of
-use Rattle.roles.specs.declared.role.Access.{Access}
 use Rattle.roles.specs.declared.role.Access.TheVariants as access
-use Rattle.roles.specs.declared.role.Column.{Column}
 use Rattle.roles.specs.declared.role.Column.TheVariants as column
 use Rattle.roles.specs.declared.role.Role.{Role}
 use Rattle.roles.specs.declared.role.Role.TheVariants as role

@@ -1,4 +1,4 @@
-use Rattle.std.proofs.Common.{◌≡◌, ℕ, ◌+◌, ◌-◌, ◌<◌, ◌≤◌, min, Bool, true, false, cond, List, [], ◌∷◌, length, get_or, take, drop, Some, None, sym, refl, ap, ◌∙◌, subst, ⊎_elim, arith}
+use Rattle.std.proofs.Common.{◌≡◌, ℕ, ◌+◌, ◌<◌, ◌≤◌, min, Bool, true, false, cond, List, [], ◌∷◌, length, get_or, drop, Some, None, sym, refl, ap, ◌∙◌, subst, ⊎_elim, arith}
 use native.Mathlib.Nat.{min-le_left, min-le_right}
 use Rattle.std.proofs.lemmas.List.{drop_more, drop_all, take_rest}
 use Rattle.std.proofs.lemmas.Bool.{cond-true, cond-false, cases_lt}
@@ -46,33 +46,33 @@ returns-then-is_wrong c =
     let ks = c.args.known.now in
     let ps = c.args.parts.now in
     let bs = c.args.bounds.now in
-    let i = c.loop_at.at in
-    let h : i < length ps = omega (arith, c.loop_at-test.true, c.min-at-end.ensures, min-le_left (length ps) (length bs)) in
-    let k : i < length bs = omega (arith, c.loop_at-test.true, c.min-at-end.ensures, min-le_right (length ps) (length bs)) in
-    let is = ap (λ l. wrong text d ks c.loop_at.spot (name_of (get_or ps i no_part)) l (get_or bs i Free) (get_or ps i no_part).role) (sym (take_rest ps (i + 1))) ∙ sym c.if-is_wrong.ensures in
-    sym (sym c.loop_at.invariant.0 ∙ wrong_at text d ks c.loop_at.spot ps bs i h k ∙ cond-true _ _ _ is)
+    let i = c.loop-at.at in
+    let h : i < length ps = omega (arith, c.loop-at-test.true, c.min-at-end.ensures, min-le_left (length ps) (length bs)) in
+    let k : i < length bs = omega (arith, c.loop-at-test.true, c.min-at-end.ensures, min-le_right (length ps) (length bs)) in
+    let is = ap (λ l. wrong text d ks c.loop-at.spot (name_of (get_or ps i no_part)) l (get_or bs i Free) (get_or ps i no_part).role) (sym (take_rest ps (i + 1))) ∙ sym c.if-is_wrong.ensures in
+    sym (sym c.loop-at.invariant.0 ∙ wrong_at text d ks c.loop-at.spot ps bs i h k ∙ cond-true _ _ _ is)
 
-pub loop_at-preserved : goal.loop_at-preserved
-loop_at-preserved c =
+pub loop-at-preserved : goal.loop-at-preserved
+loop-at-preserved c =
     let text = c.args.text.now in
     let d = decl_of c.args.tables.now in
     let ks = c.args.known.now in
     let ps = c.args.parts.now in
     let bs = c.args.bounds.now in
-    let i = c.loop_at.at in
-    let s = c.loop_at.spot in
+    let i = c.loop-at.at in
+    let s = c.loop-at.spot in
     let r = (get_or ps i no_part).role in
-    let h : i < length ps = omega (arith, c.loop_at-test.true, c.min-at-end.ensures, min-le_left (length ps) (length bs)) in
-    let k : i < length bs = omega (arith, c.loop_at-test.true, c.min-at-end.ensures, min-le_right (length ps) (length bs)) in
+    let h : i < length ps = omega (arith, c.loop-at-test.true, c.min-at-end.ensures, min-le_left (length ps) (length bs)) in
+    let k : i < length bs = omega (arith, c.loop-at-test.true, c.min-at-end.ensures, min-le_right (length ps) (length bs)) in
     let is = ap (λ l. wrong text d ks s (name_of (get_or ps i no_part)) l (get_or bs i Free) r) (sym (take_rest ps (i + 1))) ∙ sym c.if-is_wrong.ensures in
-    let on = sym c.loop_at.invariant.0 ∙ wrong_at text d ks s ps bs i h k ∙ cond-false _ _ _ is in (
+    let on = sym c.loop-at.invariant.0 ∙ wrong_at text d ks s ps bs i h k ∙ cond-false _ _ _ is in (
       ap (λ x. wrong_from text d ks x (drop (i + 1) ps) (drop (i + 1) bs)) c.next_spot-spot.ensures ∙ sym on,
-      subst (λ x. x.tables ≤ i + 1) (sym c.next_spot-spot.ensures) (few_more (table_is r) s.tables i c.loop_at.invariant.1),
-      subst (λ x. x.fields ≤ i + 1) (sym c.next_spot-spot.ensures) (few_zero (table_is r) (field_is r) s.fields i c.loop_at.invariant.2),
+      subst (λ x. x.tables ≤ i + 1) (sym c.next_spot-spot.ensures) (few_more (table_is r) s.tables i c.loop-at.invariant.1),
+      subst (λ x. x.fields ≤ i + 1) (sym c.next_spot-spot.ensures) (few_zero (table_is r) (field_is r) s.fields i c.loop-at.invariant.2),
     )
 
 pub returns : goal.returns
 returns c =
     let ps = c.args.parts.now in
     let bs = c.args.bounds.now in
-    sym (wrong_over c.args.text.now (decl_of c.args.tables.now) c.args.known.now c.loop_at.spot ps bs c.loop_at.at (subst (λ n. n ≤ c.loop_at.at) c.min-at-end.ensures c.loop_at-test.false)) ∙ c.loop_at.invariant.0
+    sym (wrong_over c.args.text.now (decl_of c.args.tables.now) c.args.known.now c.loop-at.spot ps bs c.loop-at.at (subst (λ n. n ≤ c.loop-at.at) c.min-at-end.ensures c.loop-at-test.false)) ∙ c.loop-at.invariant.0

@@ -1,5 +1,5 @@
 use Rattle.names.proofs.Spelling.{windowed}
-use Rattle.std.proofs.Common.{◌+◌, refl, ap, ◌∙◌}
+use Rattle.std.proofs.Common.{◌+◌, ap}
 use Rattle.names.proofs.name.window.Goals as goal
 
 pub returns : goal.returns

@@ -7,5 +7,5 @@ use Rattle.names.proofs.resolve.resolve.Goals as goal
 pub returns : goal.returns
 unfolding bound_from
 returns c =
-    c.loop_at.invariant.0
-    ∙ at_drop_all (bound_from c.args.text.now (decl_of c.args.tables.now) c.loop_at.scope (names_of c.loop_at.names)) c.args.parts.now c.loop_at.at c.loop_at-test.false
+    c.loop-at.invariant.0
+    ∙ at_drop_all (bound_from c.args.text.now (decl_of c.args.tables.now) c.loop-at.scope (names_of c.loop-at.names)) c.args.parts.now c.loop-at.at c.loop-at-test.false

@@ -1,4 +1,4 @@
-use Rattle.std.proofs.Common.{◌≡◌, ◌-◌, ◌≤◌, [], length, vec_items, sym, ap, arith}
+use Rattle.std.proofs.Common.{◌-◌, ◌≤◌, length, vec_items, sym, arith}
 use Rattle.std.proofs.lemmas.List.{set_past}
 use Rattle.names.proofs.schema.reshape.Goals as goal
 
