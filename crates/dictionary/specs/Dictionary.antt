@@ -2,7 +2,6 @@
 use Rattle.std.specs.Prelude.{ℕ, ◌+◌, Bool, cond, List, [], ◌∷◌, map, is_some, Some, None, Option, slice_index_or}
 use Rattle.std.specs.Option.{unwrap_or}
 use Rattle.std.specs.Str.{bytes_eq}
-use Rattle.names.specs.declared.name.Name.{Name}
 use Rattle.names.specs.declared.scope.Choice.{Choice}
 use Rattle.names.specs.Spelled.{spelled}
 use Rattle.names.specs.Schema.{Decl, fields_of, shape_of}

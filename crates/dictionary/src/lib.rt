@@ -1,4 +1,6 @@
 //! What the names of a checked text stand for, by number.
+#![tactic(auto)]
+
 ghost use Rattle.std.specs.Prelude.{◌≡◌};
 ghost use Rattle.names.specs.Spelled.{spelled};
 ghost use Rattle.names.specs.Schema.{decl_of};
