@@ -96,7 +96,7 @@ abbrev pub comma_text : List SymbolExp → Text
 comma_text [] = []
 comma_text (e ∷ es) = exp_text e ++ more_text es
 
--- `PLUS (e,e)`, `SET.k e WHERE c`, `MINUS c`
+-- `PLUS (e,e)`, `SET .k e WHERE c`, `MINUS c`
 abbrev pub write_text : SymbolWrite → Text
 write_text (insert t es) = codes "PLUS " ++ bracket (comma_text es)
 write_text (update t k e c) = codes "SET " ++ att_text k ++ codes " " ++ exp_text e ++ codes " WHERE " ++ cond_text c
