@@ -1,16 +1,16 @@
 -- The class of a byte of a model text, as a rule.
-use Rattle.std.specs.Prelude.{Bool, true, false, cond, ◌||◌, ◌&&◌, List, [], ◌∷◌, ℕ, codes, leb, eqb}
+use Rattle.std.specs.Prelude.{Bool, false, cond, ◌||◌, ◌&&◌, List, [], ◌∷◌, ℕ, codes, nat_le, nat_eq}
 use Rattle.classes.specs.declared.Class.{Class}
 use Rattle.classes.specs.declared.Class.TheVariants.{Other, Blank, Letter, Digit, Sign, Twin}
 
 -- A byte is one of those listed.
 abbrev pub one_of : List ℕ → ℕ → Bool
 one_of [] b = false
-one_of (x ∷ xs) b = eqb b x || one_of xs b
+one_of (x ∷ xs) b = nat_eq b x || one_of xs b
 
 -- A byte lies between two, both included.
 abbrev pub within : ℕ → ℕ → ℕ → Bool
-within low high b = leb low b && leb b high
+within low high b = nat_le low b && nat_le b high
 
 -- Blanks are the space, the tab and the line ends (line feed and carriage return).
 abbrev pub is_blank : ℕ → Bool

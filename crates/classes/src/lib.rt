@@ -1,4 +1,6 @@
 //! The class of each byte of a model text: one table, its rule proved once.
+#![tactic(auto)]
+
 ghost use Rattle.std.specs.Prelude.{◌≡◌};
 ghost use Rattle.classes.specs.Bytes.{class_of};
 

@@ -1,4 +1,6 @@
 //! The commands of the console.
+#![tactic(auto)]
+
 ghost use Rattle.std.specs.Prelude.{◌≡◌};
 ghost use Rattle.console.specs.Commands.{begins_with, question_of, input_of, command_of};
 

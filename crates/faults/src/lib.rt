@@ -1,4 +1,6 @@
 //! The refusals of the bench: one fault type, carried by `?` through every layer.
+#![tactic(auto)]
+
 ghost use Rattle.std.specs.Prelude.{◌≡◌, Some};
 ghost use Rattle.faults.specs.Refusals.{refusal_of, shown_refusal};
 ghost use Rattle.faults.specs.declared.Fault.TheVariants.{Memory};

@@ -1,4 +1,6 @@
 //! Paths, case files and cases as text: well-formed ones and damaged ones, each expected answer worked out from the rules.
+#![tactic(auto)]
+
 use cases::view::read_case;
 use drafts::text::{TextFault, case_bytes};
 use faults::Fault;

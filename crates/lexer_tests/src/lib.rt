@@ -1,4 +1,6 @@
 //! Tokens of short texts, each expected answer worked out by hand from the rules.
+#![tactic(auto)]
+
 use faults::Fault;
 use lexer::token::Token;
 use lexer::tokens::tokens;
