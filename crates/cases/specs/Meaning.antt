@@ -1,9 +1,9 @@
 -- What a case file means.
-use Rattle.std.specs.Prelude.{ℕ, zero, suc, ◌+◌, ◌-◌, ◌*◌, min, Bool, cond, ◌&&◌, List, [], ◌∷◌, map, length, ℤ, Some, None, Ok, Err, Option, Result, nat_le, nat_lt, slice_index}
+use Rattle.std.specs.Prelude.{ℕ, zero, suc, ◌+◌, ◌-◌, min, Bool, cond, ◌&&◌, List, [], ◌∷◌, map, length, ℤ, Some, None, Ok, Err, Option, Result, nat_le, nat_lt, slice_index}
 use Rattle.faults.specs.declared.Fault.{Fault}
 use Rattle.meaning.specs.Evaluation.{Row}
 use Rattle.meaning.specs.Tables.{Case}
-use Rattle.cases.specs.Words.{word, index_of, record_word}
+use Rattle.cases.specs.Words.{word, record_word}
 use Rattle.cases.specs.Ranges.{size_of, out_of_range}
 use Rattle.cases.specs.Chains.{pointer, chain_from, met_again, item}
 

@@ -1,4 +1,6 @@
 //! Case files: a file's bytes are checked, and then seen as tables, reads and lists.
+#![tactic(auto)]
+
 mod chains;
 mod check;
 pub mod view;

@@ -56,10 +56,10 @@ fn line_of(line: &[u8]) -> Line {
             _ => Line::Bad,
         };
     }
-    if line == b"reads" || line.starts_with(b"reads ") {
+    if line == b"reads".as_slice() || line.starts_with(b"reads ") {
         return Line::Reads;
     }
-    if line == b"list" || line.starts_with(b"list ") {
+    if line == b"list".as_slice() || line.starts_with(b"list ") {
         return Line::List;
     }
     Line::Row

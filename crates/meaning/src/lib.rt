@@ -1,5 +1,7 @@
 // The meaning of the path bench as definitions, and what is proved of them. Each function's contract is a theorem over every
 // model and every row limit; the functions themselves compute nothing.
+#![tactic(auto)]
+
 ghost use Rattle.meaning.specs.Theorems.{Always, Agreement, Judgement, OnePath, FollowingRight, Life, InRange, CursorsOnRows};
 ghost use Rattle.meaning.specs.Worked.{Worked};
 ghost use Rattle.meaning.specs.Further.{Further};

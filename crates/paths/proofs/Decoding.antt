@@ -1,5 +1,5 @@
 -- The mark at the front of some bytes: what is read is spelled there, and what is spelled is read.
-use Rattle.std.proofs.Common.{◌≡◌, ℕ, zero, suc, ◌+◌, ◌<◌, ◌≤◌, Bool, true, false, cond, eqb, ◌⊎◌, List, [], ◌∷◌, ◌++◌, length, get_or, take, drop, Ok, Err, Result, sym, refl, ap, ◌∙◌, subst, inl, inr, append_assoc, arith}
+use Rattle.std.proofs.Common.{◌≡◌, ℕ, zero, suc, ◌+◌, ◌<◌, ◌≤◌, true, false, eqb, ◌⊎◌, List, [], ◌∷◌, ◌++◌, length, get_or, take, drop, Ok, Err, Result, sym, refl, ap, ◌∙◌, subst, inl, inr, arith}
 use mathlib.Core.Option.{Option, none, some}
 use Rattle.std.specs.List.{prefix_len}
 use Rattle.std.proofs.lemmas.List.{take_at, get_or_append_left, drop_more, drop_all}
@@ -10,11 +10,11 @@ use Rattle.faults.specs.declared.Fault.TheVariants.{BadPath}
 use Rattle.meaning.specs.Syntax.{Exception, branched, turned, fetched, wrote}
 use Rattle.meaning.specs.Letters as letter
 use Rattle.meaning.specs.Letters.{Letter, letters}
-use Rattle.paths.specs.declared.mark.Mark.TheVariants.{T, E, L, O, N, X, W, K, F, C, D}
+use Rattle.paths.specs.declared.mark.Mark.TheVariants.{F, C, D}
 use Rattle.paths.specs.Marks.{Meant, Held, held, held_number}
 use Rattle.paths.specs.Spelling.{code_of, numeral, spell}
 use Rattle.paths.specs.Reading.{is_digit, value_of, read_digits, read_number, with_number, letter_by, mark_by, read_mark}
-use Rattle.paths.proofs.Numerals.{AllDigits, digitless, leading_digits, Split, split_digits, numeral_digits, value_numeral, numeral_first, numeral_some, numeral_value}
+use Rattle.paths.proofs.Numerals.{AllDigits, digitless, leading_digits, split_digits, numeral_digits, value_numeral, numeral_first, numeral_some, numeral_value}
 use Rattle.paths.proofs.Marks.{letter_code}
 
 -- What stands behind a number does not go on with it; a lone zero has ended by itself.

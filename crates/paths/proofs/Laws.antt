@@ -1,23 +1,20 @@
 -- Paths: marks are told apart, and a line breaks at one place.
-use Rattle.std.proofs.Common.{◌≡◌, ℕ, zero, suc, ◌+◌, ◌-◌, ◌<◌, ◌≤◌, Bool, true, false, eqb, ◌⊎◌, List, [], ◌∷◌, ◌++◌, map, length, get_or, take, drop, Ok, Err, Result, sym, refl, ap, ◌∙◌, subst, inl, inr, append_assoc, arith, length-append, length-drop}
-use mathlib.Core.Option.{Option, none, some}
-use mathlib.Core.List.{map-append}
+use Rattle.std.proofs.Common.{◌≡◌, ℕ, zero, suc, ◌+◌, ◌-◌, ◌<◌, ◌≤◌, true, false, ◌⊎◌, List, [], ◌∷◌, ◌++◌, map, length, get_or, take, drop, Ok, Err, Result, sym, refl, ap, ◌∙◌, subst, inl, inr, append_assoc, arith, length-append, length-drop}
+use mathlib.Core.Option.{none, some}
 use Rattle.std.specs.List.{prefix_len}
-use Rattle.std.proofs.lemmas.List.{take_at, drop_at, take-append-drop, length-take-le, append_cancel_left, append-nil, length-map, length_push, map_push, take_all, drop_more, drop-drop, get_or_at, nil_from_length}
+use Rattle.std.proofs.lemmas.List.{take_at, drop_at, take-append-drop, length-take-le, append-nil, length-map, length_push, map_push, take_all, drop_more, nil_from_length}
 use Rattle.std.proofs.lemmas.Bool.{cond-true, ne_eqb, not_from_false, cases_lt, leb-true, and_parts}
 use Rattle.faults.specs.declared.Fault.{Fault}
 use Rattle.faults.specs.declared.Fault.TheVariants.{BadPath, Memory}
 use Rattle.meaning.specs.Syntax.{Exception, branched, turned, fetched, wrote}
-use Rattle.meaning.specs.Letters.{letters}
-use Rattle.meaning.specs.Letters as letter
 use Rattle.paths.specs.declared.mark.Mark.TheVariants as variant
 use Rattle.paths.specs.Marks.{Meant, Held, held, mark_of, Exact, AllExact}
-use Rattle.paths.specs.Spelling.{code_of, numeral, spell, further, spelled, opening, in_line, line_of}
-use Rattle.paths.specs.Reading.{is_digit, read_mark}
+use Rattle.paths.specs.Spelling.{numeral, spell, further, spelled, opening, in_line, line_of}
+use Rattle.paths.specs.Reading.{read_mark}
 use Rattle.paths.specs.Answers.{Path, Front, Breaks, LineAnswers}
 use Rattle.paths.proofs.Numerals.{AllDigits, numeral_digits}
 use Rattle.paths.proofs.Marks.{spell_same}
-use Rattle.paths.proofs.Decoding.{ends, ends_space, ends_front, whole_read, Found, mark_sound, Refused, mark_refused, not_both}
+use Rattle.paths.proofs.Decoding.{ends, ends_space, ends_front, whole_read, Found, mark_sound, mark_refused, not_both}
 
 -- ---- one spelling
 

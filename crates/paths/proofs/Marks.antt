@@ -1,12 +1,12 @@
 -- Letters and marks: each has one spelling.
-use Rattle.std.proofs.Common.{◌≡◌, ℕ, zero, suc, Bool, true, false, cond, eqb, List, [], ◌∷◌, length, get_or, drop, sym, refl, ap, ◌∙◌, arith}
+use Rattle.std.proofs.Common.{◌≡◌, ℕ, Bool, true, false, cond, eqb, List, length, get_or, drop, sym, refl, ap, ◌∙◌, arith}
 use mathlib.Core.Option.{Option, none, some}
 use Rattle.std.proofs.lemmas.Bool.{eqb-true}
 use Rattle.meaning.specs.Syntax.{Exception, branched, turned, fetched, wrote}
 use Rattle.meaning.specs.Letters as letter
 use Rattle.meaning.specs.Letters.{Letter, letters, mark_of}
 use Rattle.paths.specs.Marks.{Meant}
-use Rattle.paths.specs.Spelling.{code_of, numeral, behind, spell}
+use Rattle.paths.specs.Spelling.{code_of, behind, spell}
 use Rattle.paths.specs.Reading.{value_of, letter_by}
 use Rattle.paths.proofs.Numerals.{numeral_some, value_numeral}
 

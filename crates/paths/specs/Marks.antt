@@ -1,5 +1,5 @@
 -- The marks that the code holds, and the marks that they stand for.
-use Rattle.std.proofs.Math.Option.{Option, none, some}
+use Rattle.std.proofs.Math.Option.{none, some}
 use Rattle.std.specs.Prelude.{ℕ, ◌≤◌, min, true, false, List, [], ◌∷◌}
 use Rattle.meaning.specs.Syntax.{Exception, Mark, branched, turned, fetched, wrote}
 use Rattle.paths.specs.declared.mark.Mark.{Mark as HeldMark}

@@ -1,4 +1,4 @@
-use Rattle.std.proofs.Common.{◌≡◌, ◌+◌, ◌-◌, ◌<◌, length, sym, ap, ◌∙◌, arith}
+use Rattle.std.proofs.Common.{◌≡◌, ◌+◌, ◌-◌, length, sym, ap, ◌∙◌, arith}
 use Rattle.cases.specs.Chains.{chain, pointer}
 use Rattle.cases.specs.Words.{record_word}
 use Rattle.cases.proofs.Walks.{is_index_lem, no_index, length_end, length_more, length_none}

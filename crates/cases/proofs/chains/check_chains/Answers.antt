@@ -1,7 +1,7 @@
-use Rattle.std.proofs.Common.{◌≡◌, ◌+◌, ◌-◌, ◌<◌, true, false, cond, eqb, [], ◌++◌, length, sym, refl, ap, ◌∙◌, arith}
+use Rattle.std.proofs.Common.{◌≡◌, ◌+◌, ◌-◌, cond, eqb, [], ◌++◌, length, sym, ap, ◌∙◌, arith}
 use Rattle.std.proofs.lemmas.Result.{err_from_is_err_and}
 use Rattle.std.proofs.lemmas.Bool.{ne_eqb, eq-eqb, cond-true, cond-false}
-use Rattle.cases.specs.Chains.{met, trails, trail_from, none_met, met_again, passed}
+use Rattle.cases.specs.Chains.{met, trails, trail_from, met_again, passed}
 use Rattle.cases.proofs.Walks.{met_on, met_stop, trails_more}
 use Rattle.cases.proofs.chains.check_chains.Goals as goal
 use Rattle.cases.proofs.chains.check_chains.Goals.{then-head-ne10+in_ok-follow, else-head-ne10}

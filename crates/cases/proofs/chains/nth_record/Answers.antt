@@ -25,16 +25,16 @@ loop-turn-preserved c =
     let b = c.args.bytes.now in
     let n = c.args.records in
     let i = c.loop-turn.index in
-    let most : 0 < n - c.loop-turn.-turn = omega arith in
-    let left : 0 < c.args.position - c.loop-turn.-turn = omega arith in
+    let most : 0 < n - c.loop-turn._turn = omega arith in
+    let left : 0 < c.args.position - c.loop-turn._turn = omega arith in
     let index = is_index_lem n i (omega arith) (omega arith) in
-    let m : n - c.loop-turn.-turn - 1 ≡ n - (c.loop-turn.-turn + 1) = omega arith in
-    let k : c.args.position - c.loop-turn.-turn - 1 ≡ c.args.position - (c.loop-turn.-turn + 1) = omega arith in
+    let m : n - c.loop-turn._turn - 1 ≡ n - (c.loop-turn._turn + 1) = omega arith in
+    let k : c.args.position - c.loop-turn._turn - 1 ≡ c.args.position - (c.loop-turn._turn + 1) = omega arith in
     let next : pointer b (record_word i) ≡ c.index_at-index-in-loop-turn.result = ap (pointer b) (sym c.record_at.ensures) ∙ sym c.index_at-index-in-loop-turn.ensures.value in (
-      c.loop-turn.invariant.0 ∙ chain_more b n (n - c.loop-turn.-turn) i (c.args.position - c.loop-turn.-turn) most left index
-          ∙ ap (λ j. item (chain b n (n - c.loop-turn.-turn - 1) j) (c.args.position - c.loop-turn.-turn - 1)) next
-          ∙ ap (λ x. item (chain b n x c.index_at-index-in-loop-turn.result) (c.args.position - c.loop-turn.-turn - 1)) m
-          ∙ ap (item (chain b n (n - (c.loop-turn.-turn + 1)) c.index_at-index-in-loop-turn.result)) k,
+      c.loop-turn.invariant.0 ∙ chain_more b n (n - c.loop-turn._turn) i (c.args.position - c.loop-turn._turn) most left index
+          ∙ ap (λ j. item (chain b n (n - c.loop-turn._turn - 1) j) (c.args.position - c.loop-turn._turn - 1)) next
+          ∙ ap (λ x. item (chain b n x c.index_at-index-in-loop-turn.result) (c.args.position - c.loop-turn._turn - 1)) m
+          ∙ ap (item (chain b n (n - (c.loop-turn._turn + 1)) c.index_at-index-in-loop-turn.result)) k,
       c.index_at-index-in-loop-turn.ensures.small,
     )
 
@@ -45,4 +45,4 @@ pub returns : goal.returns
 returns c =
     let n = c.args.records in
     let i = c.loop-turn.index in
-    record { index = (omega arith, c.loop-turn.invariant.1); value = sym (c.loop-turn.invariant.0 ∙ chain_first c.args.bytes.now n (n - c.loop-turn.-turn) i (c.args.position - c.loop-turn.-turn) (omega arith) (omega arith) (is_index_lem n i (omega arith) (omega arith))) }
+    record { index = (omega arith, c.loop-turn.invariant.1); value = sym (c.loop-turn.invariant.0 ∙ chain_first c.args.bytes.now n (n - c.loop-turn._turn) i (c.args.position - c.loop-turn._turn) (omega arith) (omega arith) (is_index_lem n i (omega arith) (omega arith))) }

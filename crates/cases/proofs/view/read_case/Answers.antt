@@ -1,5 +1,6 @@
-use Rattle.std.proofs.Common.{◌≡◌, length, Ok, Err, sym, refl, ap, ◌∙◌}
-use Rattle.std.proofs.lemmas.Result.{err_from_is_err_and, IfOk-from_err}
+use Rattle.std.proofs.Common.{◌≡◌, length, Ok, Err, sym, refl, rules}
+use Rattle.std.proofs.lemmas.Result.{err_from_is_err_and}
+use Rattle.cases.specs.Chains.{met_again}
 use Rattle.cases.proofs.Walks.{verdict_size, verdict_words, verdict_chains}
 use Rattle.cases.proofs.view.read_case.Goals as goal
 
@@ -20,4 +21,5 @@ returns-in_err-check_chains c =
 
 pub returns : goal.returns
 returns c =
-    record { verdict = sym (verdict_chains (length c.args.widths.now) c.args.bytes.now c.in_ok-records.records (Ok tt) (sym c.in_ok-records.ensures.value) (sym c.in_ok-check_words.ensures) (sym c.in_ok-check_chains.ensures)); same = (refl, refl) }
+    let passed : met_again c.args.bytes.now c.in_ok-records.records ≡ Ok tt = search rules in
+    record { verdict = sym (verdict_chains (length c.args.widths.now) c.args.bytes.now c.in_ok-records.records (Ok tt) (sym c.in_ok-records.ensures.value) (sym c.in_ok-check_words.ensures) passed); same = (refl, refl) }

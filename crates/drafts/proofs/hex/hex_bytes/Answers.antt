@@ -14,7 +14,7 @@ loop-i-preserved c =
     let text = c.args.text.now in
     let here : 2 * c.loop-i.i + 1 < length text = omega arith in
     c.loop-i.invariant ∙ pair_more text c.loop-i.i c.in-Some.byte (vec_items c.loop-i.bytes) here c.in-Some.ensures
-    ∙ ap (λ l. onto l (bytes_of (drop (2 * (c.loop-i.i + 1)) text))) (sym c.in_ok-push.ensures.items)
+    ∙ ap (λ l. onto l (bytes_of (drop (2 * (c.loop-i.i + 1)) text))) (sym c.in_ok-push-in-Some.ensures.items)
 
 pub returns-then-text-ne0 : goal.returns-then-text-ne0
 returns-then-text-ne0 c =

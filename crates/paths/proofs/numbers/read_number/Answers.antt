@@ -1,4 +1,4 @@
-use Rattle.std.proofs.Common.{◌≡◌, ◌+◌, ◌-◌, ◌<◌, length, get_or, take, drop, Ok, sym, ap, ◌∙◌, subst, arith}
+use Rattle.std.proofs.Common.{◌≡◌, ◌+◌, ◌-◌, ◌<◌, get_or, take, drop, Ok, sym, ap, ◌∙◌, arith}
 use Rattle.std.specs.List.{prefix_len}
 use Rattle.std.proofs.lemmas.List.{take_rest}
 use Rattle.paths.specs.Marks.{held_number}
@@ -26,7 +26,8 @@ returns c =
     let k = c.digits-count.result in
     let rest = take_rest c.args.line.now c.args.at in
     let count : prefix_len is_digit s ≡ k = ap (prefix_len is_digit) (sym rest) ∙ sym c.digits-count.ensures.value in
-    let z : get_or s 0 0 ≡ 48 → ⊥ = λ e. c.if-rest-eq48.false (ap (λ l. get_or l 0 0) rest ∙ e) in
+    let front = ap (λ l. get_or l 0 0) rest in
+    let z : get_or s 0 0 ≡ 48 → ⊥ = λ e. omega arith in
     let more : 0 < k = omega arith in
     let zero-off : k - 0 ≡ k = omega arith in
     let held : c.held_number.result ≡ held_number (value_of (take k s)) = c.held_number.ensures ∙ ap (λ l. held_number (value_of l)) (ap (take (k - 0)) rest ∙ ap (λ n. take n s) zero-off) in

@@ -1,4 +1,4 @@
-use Rattle.std.proofs.Common.{◌≡◌, ℕ, ◌+◌, ◌<◌, ◌≤◌, List, [], ◌∷◌, ◌++◌, length, vec_items, sym, refl, ap, ◌∙◌, subst, inl, inr, arith}
+use Rattle.std.proofs.Common.{◌+◌, vec_items, sym, refl, ◌∙◌, subst, inr, arith}
 use Rattle.std.proofs.lemmas.Result.{err_from_is_err_and}
 use Rattle.paths.proofs.Laws.{Reached, reached_none, reached_more, reached_all, end_within, breaks_mark, breaks_many, breaks_space}
 use Rattle.paths.proofs.read.read_line.Goals as goal
@@ -44,7 +44,7 @@ pub loop-marks-preserved : goal.loop-marks-preserved
 loop-marks-preserved c =
     let w = end_within c.args.line.now c.loop-marks.at (c.in_ok-mark.mark, c.in_ok-mark.end) c.loop-marks.invariant.0.within (sym c.in_ok-mark.ensures) in
     let far = w.1 in
-    let more = reached_more c.args.line.now (vec_items c.loop-marks.marks) c.loop-marks.at (c.in_ok-mark.mark, c.in_ok-mark.end) c.loop-marks.invariant.0 (sym c.in_ok-mark.ensures) (omega arith) c.if-line-end-ne32.false in
+    let more = reached_more c.args.line.now (vec_items c.loop-marks.marks) c.loop-marks.at (c.in_ok-mark.mark, c.in_ok-mark.end) c.loop-marks.invariant.0 (sym c.in_ok-mark.ensures) (omega arith) (omega arith) in
     let long = c.in_ok-push.ensures.len in
     (subst (λ hs. Reached c.args.line.now hs (c.in_ok-mark.end + 1)) (sym c.in_ok-push.ensures.items) more, omega arith)
 

@@ -1,4 +1,4 @@
-use Rattle.std.proofs.Common.{◌≡◌, ◌-◌, ◌≤◌, vec_items, vec_len}
+use Rattle.std.proofs.Common.{◌-◌, ◌≤◌, vec_items, vec_len}
 use Rattle.paths.proofs.Laws.{Reached}
 use Rattle.paths.proofs.read.read_line.Given as goal
 

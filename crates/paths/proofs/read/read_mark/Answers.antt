@@ -1,4 +1,4 @@
-use Rattle.std.proofs.Common.{◌≡◌, ◌+◌, ◌<◌, length, get_or, drop, sym, ap, ◌∙◌, arith, rules}
+use Rattle.std.proofs.Common.{◌≡◌, ◌+◌, ◌<◌, length, drop, sym, ap, ◌∙◌, arith, rules}
 use mathlib.Core.Option.{none}
 use Rattle.std.proofs.lemmas.Result.{err_from_is_err_and}
 use Rattle.paths.specs.declared.mark.Mark.TheVariants.{F, C, D}
@@ -33,38 +33,38 @@ returns-in-W c = sym (read_at c.args.line.now c.args.at 87 (omega arith) (sym c.
 pub returns-in-K : goal.returns-in-K
 returns-in-K c = sym (read_at c.args.line.now c.args.at 75 (omega arith) (sym c.in-K.is ∙ c.from.ensures))
 
-pub returns-in_err-number : goal.returns-in_err-number
-returns-in_err-number c =
+pub returns-in_err-number-in-F : goal.returns-in_err-number-in-F
+returns-in_err-number-in-F c =
     let p = err_from_is_err_and c.from_residual.result c.from_residual.ensures.1 in
     let lt : c.args.at < length c.args.line.now = omega arith in
-    p.1 ∙ rw p.2 (ap (with_number F) c.in_err-number.ensures ∙ sym (read_at c.args.line.now c.args.at 70 lt (sym c.in-F.is ∙ c.from.ensures)))
+    p.1 ∙ rw p.2 (ap (with_number F) c.in_err-number-in-F.ensures ∙ sym (read_at c.args.line.now c.args.at 70 lt (sym c.in-F.is ∙ c.from.ensures)))
 
-pub returns-in_ok-number : goal.returns-in_ok-number
-returns-in_ok-number c =
+pub returns-in_ok-number-in-F : goal.returns-in_ok-number-in-F
+returns-in_ok-number-in-F c =
     let lt : c.args.at < length c.args.line.now = omega arith in
-    ap (with_number F) c.in_ok-number.ensures ∙ sym (read_at c.args.line.now c.args.at 70 lt (sym c.in-F.is ∙ c.from.ensures))
+    ap (with_number F) c.in_ok-number-in-F.ensures ∙ sym (read_at c.args.line.now c.args.at 70 lt (sym c.in-F.is ∙ c.from.ensures))
 
-pub returns-in_err-number-2 : goal.returns-in_err-number-2
-returns-in_err-number-2 c =
-    let p = err_from_is_err_and c.from_residual-in_err-number-2.result c.from_residual-in_err-number-2.ensures.1 in
+pub returns-in_err-number-in-C : goal.returns-in_err-number-in-C
+returns-in_err-number-in-C c =
+    let p = err_from_is_err_and c.from_residual-in_err-number-in-C.result c.from_residual-in_err-number-in-C.ensures.1 in
     let lt : c.args.at < length c.args.line.now = omega arith in
-    p.1 ∙ rw p.2 (ap (with_number C) c.in_err-number-2.ensures ∙ sym (read_at c.args.line.now c.args.at 67 lt (sym c.in-C.is ∙ c.from.ensures)))
+    p.1 ∙ rw p.2 (ap (with_number C) c.in_err-number-in-C.ensures ∙ sym (read_at c.args.line.now c.args.at 67 lt (sym c.in-C.is ∙ c.from.ensures)))
 
-pub returns-in_ok-number-2 : goal.returns-in_ok-number-2
-returns-in_ok-number-2 c =
+pub returns-in_ok-number-in-C : goal.returns-in_ok-number-in-C
+returns-in_ok-number-in-C c =
     let lt : c.args.at < length c.args.line.now = omega arith in
-    ap (with_number C) c.in_ok-number-2.ensures ∙ sym (read_at c.args.line.now c.args.at 67 lt (sym c.in-C.is ∙ c.from.ensures))
+    ap (with_number C) c.in_ok-number-in-C.ensures ∙ sym (read_at c.args.line.now c.args.at 67 lt (sym c.in-C.is ∙ c.from.ensures))
 
-pub returns-in_err-number-3 : goal.returns-in_err-number-3
-returns-in_err-number-3 c =
-    let p = err_from_is_err_and c.from_residual-in_err-number-3.result c.from_residual-in_err-number-3.ensures.1 in
+pub returns-in_err-number-in-D : goal.returns-in_err-number-in-D
+returns-in_err-number-in-D c =
+    let p = err_from_is_err_and c.from_residual-in_err-number-in-D.result c.from_residual-in_err-number-in-D.ensures.1 in
     let lt : c.args.at < length c.args.line.now = omega arith in
-    p.1 ∙ rw p.2 (ap (with_number D) c.in_err-number-3.ensures ∙ sym (read_at c.args.line.now c.args.at 68 lt (sym c.in-D.is ∙ c.from.ensures)))
+    p.1 ∙ rw p.2 (ap (with_number D) c.in_err-number-in-D.ensures ∙ sym (read_at c.args.line.now c.args.at 68 lt (sym c.in-D.is ∙ c.from.ensures)))
 
-pub returns-in_ok-number-3 : goal.returns-in_ok-number-3
-returns-in_ok-number-3 c =
+pub returns-in_ok-number-in-D : goal.returns-in_ok-number-in-D
+returns-in_ok-number-in-D c =
     let lt : c.args.at < length c.args.line.now = omega arith in
-    ap (with_number D) c.in_ok-number-3.ensures ∙ sym (read_at c.args.line.now c.args.at 68 lt (sym c.in-D.is ∙ c.from.ensures))
+    ap (with_number D) c.in_ok-number-in-D.ensures ∙ sym (read_at c.args.line.now c.args.at 68 lt (sym c.in-D.is ∙ c.from.ensures))
 
 pub returns-in_default : goal.returns-in_default
 returns-in_default c =

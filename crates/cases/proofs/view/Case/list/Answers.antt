@@ -1,4 +1,4 @@
-use Rattle.std.proofs.Common.{◌≡◌, ℕ, ◌<◌, ◌⊎◌, None, sym, ap, ◌∙◌, subst, arith}
+use Rattle.std.proofs.Common.{ap, ◌∙◌, arith}
 use Rattle.cases.specs.Meaning.{list_item, lists_from}
 use Rattle.cases.proofs.Walks.{list_none, list_some}
 use Rattle.cases.proofs.view.Case.list.Goals as goal

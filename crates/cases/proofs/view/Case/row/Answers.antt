@@ -1,4 +1,4 @@
-use Rattle.std.proofs.Common.{◌≡◌, Some, sym, ap, ◌∙◌}
+use Rattle.std.proofs.Common.{Some, sym, ap, ◌∙◌}
 use Rattle.cases.proofs.Walks.{rows_none, row_none, row_some}
 use Rattle.cases.proofs.view.Case.row.Goals as goal
 
