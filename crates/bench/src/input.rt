@@ -10,11 +10,11 @@ pub struct Input {
 }
 
 impl Input {
-    pub fn new(stdin: Stdin, heap: Global) -> Input {
-        Input {
-            reader: BufReader::new(stdin),
+    pub fn new(stdin: Stdin, heap: Global) -> io::Result<Input> {
+        Ok(Input {
+            reader: BufReader::new(heap, stdin)?,
             line: Vec::new(heap),
-        }
+        })
     }
 
     /// Reads the next line, without its newline; `false` where the input has ended.
@@ -36,7 +36,7 @@ impl Input {
     pub fn block(&mut self, heap: Global) -> io::Result<Vec<u8>> {
         let mut block = Vec::new(heap);
         for _ in 0..u64::MAX {
-            if !self.next_line()? || self.line() == b"." {
+            if !self.next_line()? || self.line() == b".".as_slice() {
                 break;
             }
             block.extend_from_slice(self.line())?;

@@ -1,4 +1,6 @@
 //! The console of the path bench: reads commands from standard input, a line each, and answers each on standard output.
+#![tactic(auto)]
+
 use anyhow::anyhow;
 use console::{Command, read_command};
 use drafts::hex::hex_bytes;
@@ -97,7 +99,7 @@ fn answer(rt: &HostRuntime, setting: &mut Setting, input: &mut Input) -> anyhow:
 
 fn main(rt: HostRuntime) -> anyhow::Result<()> {
     let heap = rt.alloc();
-    let mut input = Input::new(rt.stdin(), heap);
+    let mut input = Input::new(rt.stdin(), heap)?;
     let mut setting = Setting {
         path: Vec::new(heap),
         case: Vec::new(heap),
