@@ -1,4 +1,4 @@
 //! Checks a model: its form, its limits, its names, and circles among its references.
 #![tactic(auto)]
 
-pub mod names;
+pub mod naming;
