@@ -1,7 +1,10 @@
 //! Lines and blocks of standard input, read through a buffer.
+ghost use Rattle.std.specs.Prelude.{◌≡◌, IfErr};
+ghost use Rattle.std.specs.IoError.{error_kind};
+
 use std::alloc::Global;
 use std::io;
-use std::io::{BufRead, BufReader, Stdin};
+use std::io::{BufRead, BufReader, ErrorKind, Stdin};
 
 #[derive(Drop)]
 pub struct Input {
@@ -10,7 +13,10 @@ pub struct Input {
 }
 
 impl Input {
-    pub fn new(stdin: Stdin, heap: Global) -> io::Result<Input> {
+    /// Fails only where there is no memory for the buffer.
+    pub fn new(stdin: Stdin, heap: Global) -> io::Result<Input>
+        ensures { IfErr result (λ e. error_kind e ≡ ErrorKind.OutOfMemory) }
+    {
         Ok(Input {
             reader: BufReader::new(heap, stdin)?,
             line: Vec::new(heap),
