@@ -9,7 +9,7 @@ mod table;
 use table::CLASSES;
 
 /// What a byte of a model text can be part of.
-#[derive(Clone, Copy)]
+#[derive(Clone, Copy, PartialEq, Eq)]
 pub enum Class {
     /// No token.
     Other,

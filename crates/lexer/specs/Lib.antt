@@ -1,5 +1,6 @@
 pub mod Runs
 pub mod Keywords
+pub mod Names
 pub mod Signs
 pub mod Numbers
 pub mod Tokens

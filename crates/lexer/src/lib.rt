@@ -2,6 +2,7 @@
 #![tactic(auto)]
 
 pub mod keywords;
+pub mod name;
 mod numbers;
 mod runs;
 pub mod signs;

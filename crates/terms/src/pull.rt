@@ -9,7 +9,7 @@ use lexer::signs::Sign;
 use lexer::token::{Token, next_token};
 
 /// What a token is, apart from its bytes.
-#[derive(Clone, Copy)]
+#[derive(Clone, Copy, PartialEq, Eq)]
 pub enum Word {
     Name,
     Number(u32),
