@@ -69,13 +69,13 @@ fn shift<T: Copy>(
 
 /// Sound chains, lent to be changed.
 #[derive(Drop)]
-pub struct ChainsMut<'m, T: Copy> {
-    pub heads: &'m mut [usize],
-    pub cells: &'m mut [Cell<T>],
+pub struct ChainsMut<'h, 'c, T: Copy> {
+    pub heads: &'h mut [usize],
+    pub cells: &'c mut [Cell<T>],
     pub ghost sound: { Sound heads.now cells.now } by { Prim.hlevel props },
 }
 
-impl<T: Copy> ChainsMut<'_, T> {
+impl<T: Copy> ChainsMut<'_, '_, T> {
     /// Puts `value` into chain `chain` after node `node`, or first at node 0, in a free cell.
     pub fn put_after(&mut self, chain: usize, node: usize, value: T)
         requires from { 0 < chain }
