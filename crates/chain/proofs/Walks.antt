@@ -1,5 +1,5 @@
 -- Walks over the cells alone, without the heads in front.
-use Rattle.std.proofs.Common.{◌≡◌, ℕ, zero, suc, ◌+◌, ◌-◌, ◌<◌, ◌≤◌, List, [], ◌∷◌, map, length, get_or, Option, Some, None, MatchOption, Bor, sym, refl, ap, ◌∙◌, arith}
+use Rattle.std.proofs.Common.{◌≡◌, ℕ, zero, suc, ◌+◌, ◌-◌, ◌<◌, ◌≤◌, List, ◌∷◌, map, length, get_or, Option, Some, None, MatchOption, Bor, sym, refl, ap, ◌∙◌, arith}
 use Rattle.std.specs.Slice.{IsItemAt}
 use Rattle.std.specs.List.{slice_get}
 use Rattle.std.specs.Iterator.{YieldsFirst, YieldsThen}
@@ -27,11 +27,6 @@ walk_step (suc f) (suc i) next ps h lt e =
 pub next_read : {X : Type 0} (cells : List (Cell X)) (i next : ℕ) (o : Option (Bor (Cell X))) → IsItemAt cells i o → MatchOption o (next ≡ 0) (λ x. next ≡ x.now.next) → next ≡ get_or (map (λ x. x.next) cells) i 0
 next_read cells i next None at e = grind (arith, common_steps)
 next_read cells i next (Some x) at e = grind (arith, common_steps)
-
--- a walk that is over
-pub walk_over : (f : ℕ) (ps : List ℕ) → walk f 0 ps 0 ≡ []
-walk_over zero ps = refl
-walk_over (suc f) ps = refl
 
 -- the nodes of a sound chain, met over its cells alone
 pub walk_nodes : {X : Type 0} (heads : List ℕ) (cells : List (Cell X)) (c : ℕ) → Sound heads cells → c < length heads → walk (length cells) 0 (map (λ x. x.next) cells) (get_or heads c 0) ≡ nodes_of heads cells c

@@ -8,6 +8,7 @@ use super::nodes::Nodes;
 
 /// The node after `node` of chain `chain`, or its first at node 0; 0 at the chain's end.
 // 0 and no `Option`: cells store 0 at a chain's end, and a node that is passed on as a place takes 0 for the front.
+// It takes the slices, since it asks nothing of the chains: a `Chains` would ask that they are sound.
 pub fn after<T: Copy>(heads: &[usize], cells: &[Cell<T>], chain: usize, node: usize) -> usize
     requires chain { chain < length heads.now }
     requires node { node ≤ length cells.now }

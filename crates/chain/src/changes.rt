@@ -8,6 +8,7 @@ use super::cells::{Cell, element, link_all};
 use super::chains::after;
 
 /// Makes all chains empty over the lent cells: each cell is free.
+// It takes the slices: as a constructor of a `ChainsMut` it would have to say besides whose memory that holds.
 pub fn free_all<T: Copy>(heads: &mut [usize], cells: &mut [Cell<T>])
     requires { 0 < length heads.old }
     ensures sound { Sound heads.new cells.new }
@@ -22,6 +23,7 @@ pub fn free_all<T: Copy>(heads: &mut [usize], cells: &mut [Cell<T>])
 }
 
 /// Makes `target` the node after `node` of chain `chain`, or its first at node 0.
+// This step and `shift` take the slices and no `ChainsMut`: between their writes the chains are not sound.
 fn point<T: Copy>(
     heads: &mut [usize],
     cells: &mut [Cell<T>],

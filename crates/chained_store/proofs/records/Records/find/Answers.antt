@@ -1,4 +1,4 @@
-use Rattle.std.proofs.Common.{◌≡◌, refl, ℕ, suc, ◌+◌, ◌-◌, ◌<◌, List, [], ◌∷◌, ◌++◌, Some, None, map, length, get_or, ◌<ℤ◌, sym, ap, ◌∙◌, subst, arith, rules, length-append, w32, to_z, of_z}
+use Rattle.std.proofs.Common.{◌≡◌, refl, ℕ, suc, ◌-◌, ◌<◌, List, [], ◌∷◌, ◌++◌, Some, None, map, length, get_or, ◌<ℤ◌, sym, ap, ◌∙◌, subst, arith, rules, length-append, w32, to_z, of_z}
 use Rattle.std.specs.Iterator.{Yields, YieldsFirst}
 use Rattle.std.proofs.lemmas.Iterator.Consumers.{YieldsList-from_first, YieldsList-turn, YieldsList-end}
 use Rattle.std.proofs.lemmas.Grind.{get_or_default_zero}
