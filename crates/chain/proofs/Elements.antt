@@ -7,7 +7,7 @@ use Rattle.std.proofs.lemmas.Bool.{cases_lt}
 use Rattle.chain.specs.declared.cells.Cell.{Cell}
 use Rattle.chain.specs.Lists.{slot_of, prior, nodes, relinked, pointers, Sound, nodes_of, elements, free, Before}
 use Rattle.chain.proofs.Slots.{length_pointers}
-use Rattle.chain.proofs.Links.{Strung, shifted, slot_node, nodes_are, strung_shifted, shifted_a, shifted_b, shifted_else, onward, sum_same, sum_term}
+use Rattle.chain.proofs.Links.{Strung, shifted, nodes_are, strung_shifted, shifted_a, shifted_b, shifted_else, sum_same, sum_term}
 
 -- the lists are those that a walk gives
 pub canonical : (n : ℕ) (ps : List ℕ) (L : ℕ → List ℕ) → Strung n ps L → Strung n ps (nodes n ps)
@@ -51,12 +51,6 @@ place_end n ps L st c p lt e = ⊎_elim (λ h. absurd (omega (arith, (st.inside 
 
 pub place_some : (L : ℕ → List ℕ) (c p : ℕ) → 0 < get_or (L c) p 0 → p < length (L c)
 place_some L c p h = ⊎_elim (λ l. l) (λ l. absurd (omega (arith, get_or_past (L c) p 0 l))) (cases_lt p (length (L c)))
-
--- a step from a node
-pub place_next : (n : ℕ) (ps : List ℕ) (L : ℕ → List ℕ) → Strung n ps L → (c p node : ℕ) → c < n → node ≡ get_or (L c) p 0 → 0 < node → get_or ps (slot_of n c node) 0 ≡ get_or (L c) (p + 1) 0
-place_next n ps L st c p node lt e h =
-    let l = place_some L c p (omega arith) in
-    ap (λ s. get_or ps s 0) (slot_node n c node h) ∙ ap (λ j. get_or ps (n + (j - 1)) 0) e ∙ onward n ps L st c p lt l
 
 pub list_short : (n N : ℕ) (ps : List ℕ) (L : ℕ → List ℕ) → Strung n ps L → length ps ≡ n + N → (c : ℕ) → c < n → length (L c) ≤ N
 list_short n N ps L st long c lt = let t = sum_term n c (λ i. length (L i)) lt in omega (arith, st.total)
@@ -142,10 +136,6 @@ module _ {X : Type 0} (heads : List ℕ) (cells : List (Cell X)) (s : Sound head
 
   pub node_some : (c p : ℕ) → 0 < get_or (nodes_of heads cells c) p 0 → p < length (nodes_of heads cells c)
   node_some c p h = place_some (nodes (length heads) (pointers heads cells)) c p h
-
-  pub node_next : (c p node : ℕ) → c < length heads → node ≡ get_or (nodes_of heads cells c) p 0 → 0 < node
-      → get_or (pointers heads cells) (slot_of (length heads) c node) 0 ≡ get_or (nodes_of heads cells c) (p + 1) 0
-  node_next c p node lt e h = place_next (length heads) (pointers heads cells) (nodes (length heads) (pointers heads cells)) (strung s) c p node lt e h
 
   pub nodes_few : (c : ℕ) → c < length heads → length (nodes_of heads cells c) ≤ length cells
   nodes_few c lt = list_short (length heads) (length cells) (pointers heads cells) (nodes (length heads) (pointers heads cells)) (strung s) long c lt

@@ -1,4 +1,5 @@
+pub mod Elements
+mod Fresh
 pub mod Links
 pub mod Slots
-pub mod Elements
-pub mod Fresh
+mod Walks

@@ -1,6 +1,6 @@
 -- The pointers of heads and cells, read and written.
 use Rattle.std.proofs.Common.{◌≡◌, ℕ, ◌+◌, ◌-◌, ◌<◌, List, ◌++◌, map, length, get_or, set, sym, refl, ap, ◌∙◌, arith}
-use Rattle.std.proofs.lemmas.List.{get_or-map, map-set, set-get_or, get_or_append_left, get_or-append_right, set-append_left, set-append_right, length-append, length-map}
+use Rattle.std.proofs.lemmas.List.{get_or-map, map-set, set-get_or, get_or-append_right, set-append_right, length-append, length-map}
 use Rattle.chain.specs.declared.cells.Cell.{Cell}
 use Rattle.chain.specs.Lists.{slot_of, pointers}
 use Rattle.chain.proofs.Links.{slot_node}
@@ -25,14 +25,8 @@ module _ {X : Type 0} (cells : List (Cell X)) where
   length_pointers heads = length-append heads (map (λ c. c.next) cells) ∙ ap (λ m. length heads + m) (length-map cells (λ c. c.next))
 
 module _ (heads nexts : List ℕ) (c node : ℕ) where
-  pub read_head : node ≡ 0 → c < length heads → get_or heads c 0 ≡ get_or (heads ++ nexts) (slot_of (length heads) c node) 0
-  read_head e lt = sym (ap (λ j. get_or (heads ++ nexts) (slot_of (length heads) c j) 0) e ∙ get_or_append_left heads nexts 0 c (omega arith))
-
   pub read_node : 0 < node → get_or nexts (node - 1) 0 ≡ get_or (heads ++ nexts) (slot_of (length heads) c node) 0
   read_node h = sym (ap (λ s. get_or (heads ++ nexts) s 0) (slot_node (length heads) c node h) ∙ get_or-append_right heads nexts (length heads) (length heads + (node - 1)) 0 refl (omega arith) ∙ ap (λ i. get_or nexts i 0) (omega arith))
-
-  pub write_head : (t : ℕ) → node ≡ 0 → c < length heads → set heads c t ++ nexts ≡ set (heads ++ nexts) (slot_of (length heads) c node) t
-  write_head t e lt = sym (ap (λ j. set (heads ++ nexts) (slot_of (length heads) c j) t) e ∙ set-append_left heads nexts c t (omega arith))
 
   pub write_node : (t : ℕ) → 0 < node → heads ++ set nexts (node - 1) t ≡ set (heads ++ nexts) (slot_of (length heads) c node) t
   write_node t h = sym (ap (λ s. set (heads ++ nexts) s t) (slot_node (length heads) c node h) ∙ set-append_right heads nexts (length heads) (length heads + (node - 1)) t refl (omega arith) ∙ ap (λ i. heads ++ set nexts i t) (omega arith))

@@ -4,8 +4,10 @@
 
 mod cells;
 mod chains;
+mod changes;
+mod nodes;
 
-pub use cells::Cell;
-pub use chains::{
-    after, count, element, element_at, free_all, free_chain, node_at, put_after, take_after,
-};
+pub use cells::{Cell, element};
+pub use chains::{Chains, after};
+pub use changes::{ChainsMut, free_all};
+pub use nodes::Nodes;

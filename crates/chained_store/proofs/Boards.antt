@@ -22,9 +22,9 @@ pub record Held (limit : ℕ) (heads : List ℕ) (cells : List (Cell Entry)) : T
 
 pub held : (s : ChainedStore) → Held s.limit s.raw.heads s.raw.cells.now
 held s = record {
-  sound = record { leads = s.leads; inside = s.inside; apart = s.apart; total = s.total };
+  sound = s.raw.sound;
   size = s.size;
-  width = s.width;
+  width = s.raw.width;
   kept = record { limited = s.limited; ascends = s.ascends; within = s.within };
 }
 

@@ -1,6 +1,5 @@
 //! The store with chained records.
 ghost use Rattle.std.specs.Prelude.{◌≡◌, ℕ, ◌*◌, ◌<◌, ◌≤◌, true, length};
-ghost use Rattle.chain.specs.Lists.{pointers, Leads, Inside, Apart, Total};
 ghost use Rattle.store.specs.Meaning.{is_limit, entry_at, ascending, empty_of};
 ghost use Rattle.chained_store.specs.Tables.{meant, rows_of};
 
@@ -16,11 +15,6 @@ pub struct ChainedStore<'a> {
     limit: usize,
     ghost limited: { is_limit limit ≡ true },
     ghost size: { length raw.cells.now ≡ 8 * limit },
-    ghost width: { length raw.heads ≡ 9 },
-    ghost leads: { Leads (length raw.heads) (pointers raw.heads raw.cells.now) },
-    ghost inside: { Inside (length raw.heads) (pointers raw.heads raw.cells.now) },
-    ghost apart: { Apart (length raw.heads) (pointers raw.heads raw.cells.now) },
-    ghost total: { Total (length raw.heads) (pointers raw.heads raw.cells.now) },
     ghost within: { ((t : ℕ) → 1 ≤ t → t ≤ 8 → length (rows_of raw.heads raw.cells.now t) ≤ limit) },
     ghost ascends: { ((t : ℕ) → 1 ≤ t → t ≤ 8 → ascending (rows_of raw.heads raw.cells.now t) ≡ true) },
 }
@@ -36,8 +30,8 @@ impl<'a> ChainedStore<'a> {
         let records = TABLES * limit;
         let heads = free_records(cells, records);
         let raw = Records {
-            cells: &mut cells[..records],
             heads,
+            cells: &mut cells[..records],
         };
         ChainedStore { raw, limit }
     }
@@ -70,45 +64,40 @@ impl Store for ChainedStore<'_> {
     }
 
     fn key_at(&self, table: usize, position: usize) -> Result<i32, Fault> {
-        match self.entry_at(table, position) {
-            Some(entry) => Ok(entry.key),
-            None => Err(Fault::NotThere { table }),
-        }
+        let entry = self
+            .entry_at(table, position)
+            .ok_or(Fault::NotThere { table })?;
+        Ok(entry.key)
     }
 
     fn row_at(&self, table: usize, position: usize) -> Result<[i32; WIDTH], Fault> {
-        match self.entry_at(table, position) {
-            Some(entry) => Ok(entry.row),
-            None => Err(Fault::NotThere { table }),
-        }
+        let entry = self
+            .entry_at(table, position)
+            .ok_or(Fault::NotThere { table })?;
+        Ok(entry.row)
     }
 
     fn put(&mut self, table: usize, key: i32, row: [i32; WIDTH]) -> Result<(), Fault> {
         if table == 0 || table > TABLES {
             return Err(Fault::NotThere { table });
         }
-        match self.raw.find(table, key) {
-            Ok(_) => Err(Fault::KeyTaken { table }),
-            Err(before) => {
-                if self.raw.rows(table) >= self.limit {
-                    return Err(Fault::TableFull { table });
-                }
-                self.raw.insert(table, before, Entry { key, row });
-                Ok(())
-            }
+        let Err(before) = self.raw.find(table, key) else {
+            return Err(Fault::KeyTaken { table });
+        };
+        if self.raw.rows(table) >= self.limit {
+            return Err(Fault::TableFull { table });
         }
+        self.raw.insert(table, before, Entry { key, row });
+        Ok(())
     }
 
     fn take(&mut self, table: usize, key: i32) -> Result<[i32; WIDTH], Fault> {
         if table == 0 || table > TABLES {
             return Err(Fault::NotThere { table });
         }
-        match self.raw.find(table, key) {
-            Err(_) => Err(Fault::NotThere { table }),
-            Ok(before) => {
-                let entry = self.raw.remove(table, before);
-                Ok(entry.row)
-            }
-        }
+        let Ok(before) = self.raw.find(table, key) else {
+            return Err(Fault::NotThere { table });
+        };
+        Ok(self.raw.remove(table, before).row)
     }
 }

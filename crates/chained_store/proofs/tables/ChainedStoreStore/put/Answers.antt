@@ -14,16 +14,14 @@ insert-requires c =
     let f = missed c.args.key (nodes_of c.args.self.now.raw.heads c.args.self.now.raw.cells.now c.args.table) (rows_of c.args.self.now.raw.heads c.args.self.now.raw.cells.now c.args.table) c.in-Err.before c.ranges.key c.in-Err.ensures in
     let h = held c.args.self.now in
     record {
-      sound = h.sound;
-      width = h.width;
       from = omega arith;
       to = omega arith;
       at = (rank c.args.key (rows_of c.args.self.now.raw.heads c.args.self.now.raw.cells.now c.args.table), (omega (arith, rank_le c.args.key (rows_of c.args.self.now.raw.heads c.args.self.now.raw.cells.now c.args.table), length_rows c.args.self.now.raw.heads c.args.self.now.raw.cells.now c.args.table), f.1));
       room = room _ _ _ h c.args.table (omega arith) (omega arith) (omega (arith, c.rows.ensures));
     }
 
-pub returns-else-rows-self : goal.returns-else-rows-self
-returns-else-rows-self c =
+pub returns : goal.returns
+returns c =
     let f = missed c.args.key (nodes_of c.args.self.now.raw.heads c.args.self.now.raw.cells.now c.args.table) (rows_of c.args.self.now.raw.heads c.args.self.now.raw.cells.now c.args.table) c.in-Err.before c.ranges.key c.in-Err.ensures in
     let before : Before (nodes_of c.args.self.now.raw.heads c.args.self.now.raw.cells.now c.args.table) c.in-Err.before (rank c.args.key (rows_of c.args.self.now.raw.heads c.args.self.now.raw.cells.now c.args.table)) = (omega (arith, rank_le c.args.key (rows_of c.args.self.now.raw.heads c.args.self.now.raw.cells.now c.args.table), length_rows c.args.self.now.raw.heads c.args.self.now.raw.cells.now c.args.table), f.1) in
     let p = put_here c.args.self.now.limit (rows_of c.args.self.now.raw.heads c.args.self.now.raw.cells.now) c.args.table (omega arith) (omega arith) (held c.args.self.now).kept
@@ -40,5 +38,4 @@ invariant_of-self c =
     (rows_of c.insert.new.self.heads c.insert.new.self.cells.now) (λ v a b ne. c.insert.ensures.there v a (omega arith) ne) (record { key = c.args.key; row = c.args.row }) f.0 (omega (arith, c.rows.ensures))
     (c.insert.ensures.here (rank c.args.key (rows_of c.args.self.now.raw.heads c.args.self.now.raw.cells.now c.args.table)) before
     ∙ ap (λ k. insert (rows_of c.args.self.now.raw.heads c.args.self.now.raw.cells.now c.args.table) (rank c.args.key (rows_of c.args.self.now.raw.heads c.args.self.now.raw.cells.now c.args.table)) (record { key = k; row = c.args.row })) (to_z-of_z w32 c.args.key c.ranges.key)) in
-    let sound = c.insert.ensures.sound in
-    record { limited = p.2.limited; size = c.insert.ensures.size ∙ c.args.self.now.size; width = c.insert.ensures.width; leads = sound.leads; inside = sound.inside; apart = sound.apart; total = sound.total; within = p.2.within; ascends = p.2.ascends }
+    record { limited = p.2.limited; size = c.insert.ensures.size ∙ c.args.self.now.size; within = p.2.within; ascends = p.2.ascends }

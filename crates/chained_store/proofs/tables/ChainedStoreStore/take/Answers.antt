@@ -7,30 +7,27 @@ use Rattle.chained_store.specs.Tables.{rows_of}
 use Rattle.chained_store.proofs.Boards.{held, length_rows, found}
 use Rattle.chained_store.proofs.tables.ChainedStoreStore.take.Goals as goal
 
-pub remove-entry-requires : goal.remove-entry-requires
-remove-entry-requires c =
+pub remove-requires : goal.remove-requires
+remove-requires c =
     let f = found c.args.key (nodes_of c.args.self.now.raw.heads c.args.self.now.raw.cells.now c.args.table) (rows_of c.args.self.now.raw.heads c.args.self.now.raw.cells.now c.args.table) c.in-Ok.before c.ranges.key c.in-Ok.ensures in
     let l = rank_lt c.args.key (rows_of c.args.self.now.raw.heads c.args.self.now.raw.cells.now c.args.table) f.0 in
     let lr = length_rows c.args.self.now.raw.heads c.args.self.now.raw.cells.now c.args.table in
-    let h = held c.args.self.now in
     record {
-      sound = h.sound;
-      width = h.width;
       from = omega arith;
       to = omega arith;
       at = (rank c.args.key (rows_of c.args.self.now.raw.heads c.args.self.now.raw.cells.now c.args.table), (omega arith, f.1), omega arith);
     }
 
-pub returns-in-Ok : goal.returns-in-Ok
-returns-in-Ok c =
+pub returns : goal.returns
+returns c =
     let f = found c.args.key (nodes_of c.args.self.now.raw.heads c.args.self.now.raw.cells.now c.args.table) (rows_of c.args.self.now.raw.heads c.args.self.now.raw.cells.now c.args.table) c.in-Ok.before c.ranges.key c.in-Ok.ensures in
     let l = rank_lt c.args.key (rows_of c.args.self.now.raw.heads c.args.self.now.raw.cells.now c.args.table) f.0 in
     let lr = length_rows c.args.self.now.raw.heads c.args.self.now.raw.cells.now c.args.table in
     let before : Before (nodes_of c.args.self.now.raw.heads c.args.self.now.raw.cells.now c.args.table) c.in-Ok.before (rank c.args.key (rows_of c.args.self.now.raw.heads c.args.self.now.raw.cells.now c.args.table)) = (omega arith, f.1) in
     let p = take_here c.args.self.now.limit (rows_of c.args.self.now.raw.heads c.args.self.now.raw.cells.now) c.args.table (omega arith) (omega arith) (held c.args.self.now).kept
-    (rows_of c.remove-entry.new.self.heads c.remove-entry.new.self.cells.now) (λ v a b ne. c.remove-entry.ensures.there v a (omega arith) ne) c.args.key c.remove-entry.result.row f.0
-    (ap (λ e. e.row) (c.remove-entry.ensures.answer (rank c.args.key (rows_of c.args.self.now.raw.heads c.args.self.now.raw.cells.now c.args.table)) before (omega arith)))
-    (c.remove-entry.ensures.here (rank c.args.key (rows_of c.args.self.now.raw.heads c.args.self.now.raw.cells.now c.args.table)) before (omega arith)) in
+    (rows_of c.remove.new.self.heads c.remove.new.self.cells.now) (λ v a b ne. c.remove.ensures.there v a (omega arith) ne) c.args.key c.remove.result.row f.0
+    (ap (λ e. e.row) (c.remove.ensures.answer (rank c.args.key (rows_of c.args.self.now.raw.heads c.args.self.now.raw.cells.now c.args.table)) before (omega arith)))
+    (c.remove.ensures.here (rank c.args.key (rows_of c.args.self.now.raw.heads c.args.self.now.raw.cells.now c.args.table)) before (omega arith)) in
     record { answer = p.0; after = p.1 }
 
 pub invariant_of-self : goal.invariant_of-self
@@ -40,8 +37,7 @@ invariant_of-self c =
     let lr = length_rows c.args.self.now.raw.heads c.args.self.now.raw.cells.now c.args.table in
     let before : Before (nodes_of c.args.self.now.raw.heads c.args.self.now.raw.cells.now c.args.table) c.in-Ok.before (rank c.args.key (rows_of c.args.self.now.raw.heads c.args.self.now.raw.cells.now c.args.table)) = (omega arith, f.1) in
     let p = take_here c.args.self.now.limit (rows_of c.args.self.now.raw.heads c.args.self.now.raw.cells.now) c.args.table (omega arith) (omega arith) (held c.args.self.now).kept
-    (rows_of c.remove-entry.new.self.heads c.remove-entry.new.self.cells.now) (λ v a b ne. c.remove-entry.ensures.there v a (omega arith) ne) c.args.key c.remove-entry.result.row f.0
-    (ap (λ e. e.row) (c.remove-entry.ensures.answer (rank c.args.key (rows_of c.args.self.now.raw.heads c.args.self.now.raw.cells.now c.args.table)) before (omega arith)))
-    (c.remove-entry.ensures.here (rank c.args.key (rows_of c.args.self.now.raw.heads c.args.self.now.raw.cells.now c.args.table)) before (omega arith)) in
-    let sound = c.remove-entry.ensures.sound in
-    record { limited = p.2.limited; size = c.remove-entry.ensures.size ∙ c.args.self.now.size; width = c.remove-entry.ensures.width; leads = sound.leads; inside = sound.inside; apart = sound.apart; total = sound.total; within = p.2.within; ascends = p.2.ascends }
+    (rows_of c.remove.new.self.heads c.remove.new.self.cells.now) (λ v a b ne. c.remove.ensures.there v a (omega arith) ne) c.args.key c.remove.result.row f.0
+    (ap (λ e. e.row) (c.remove.ensures.answer (rank c.args.key (rows_of c.args.self.now.raw.heads c.args.self.now.raw.cells.now c.args.table)) before (omega arith)))
+    (c.remove.ensures.here (rank c.args.key (rows_of c.args.self.now.raw.heads c.args.self.now.raw.cells.now c.args.table)) before (omega arith)) in
+    record { limited = p.2.limited; size = c.remove.ensures.size ∙ c.args.self.now.size; within = p.2.within; ascends = p.2.ascends }

@@ -1,8 +1,0 @@
-use Rattle.std.proofs.Common.{◌<◌, ◌≢◌, length, arith, get_or-set_other, get_or-set_same, below_more}
-use Rattle.chain.proofs.chains.clear.Goals as goal
-
-pub loop-head-preserved : goal.loop-head-preserved
-loop-head-preserved c =
-    below_more _ _
-    (λ k h. let ne : k ≢ c.loop-head.head-index = omega arith in rw get_or-set_other (c.loop-head.invariant k h))
-    (let lt : c.loop-head.head-index < length c.loop-head.heads = omega arith in rw get_or-set_same)
