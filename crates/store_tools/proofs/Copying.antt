@@ -6,7 +6,7 @@ use Rattle.std.proofs.lemmas.Int.{ints}
 use Rattle.std.proofs.lemmas.Bool.{cond-true, eq-eqb}
 use Rattle.store.specs.declared.Entry.{Entry}
 use Rattle.store.specs.Meaning.{Meaning, is_table, rank, holds, with_entry, without, updated, no_entry, ascending, put_after, take_after}
-use Rattle.store.proofs.Rows.{Above, Ascends, ascends_from, rank_more, holds_more, rank_here, holds_here}
+use Rattle.store.proofs.Rows.{Ascends, ascends_from, above_at, rank_more, holds_more, rank_here, holds_here}
 use Rattle.store.proofs.Calls.{put_done, take_done}
 
 -- ---- one table changed
@@ -20,11 +20,6 @@ pub updated_at : (m : Meaning) (t : ℕ) (r : List Entry) → (updated m t r).ta
 updated_at m t r = cond-true (eqb t t) _ _ (eq-eqb t t refl)
 
 -- ---- a row more
-
-above_at : (a : ℤ) (rows : List Entry) (i : ℕ) (d : Entry) → Above a rows → i < length rows → a <ℤ (get_or rows i d).key
-above_at a [] i d h l = absurd (omega arith)
-above_at a (r ∷ rs) zero d (p, q) l = p
-above_at a (r ∷ rs) (suc i) d (p, q) l = above_at a rs i d q (omega arith)
 
 -- the next row goes behind those before it
 next_place : (rows : List Entry) (i : ℕ) (d : Entry) → Ascends rows → i < length rows → (rank (get_or rows i d).key (take i rows) ≡ i) × (holds (get_or rows i d).key (take i rows) ≡ false)
