@@ -1,9 +1,13 @@
 -- All tables of a store, one after another.
-use Rattle.std.proofs.Common.{◌≡◌, ℕ, ◌+◌, ◌<◌, ◌≤◌, true, false, cond, ◌&&◌, eqb, ltb, List, [], ◌∷◌, ◌++◌, sym, refl, ap, ◌∙◌, subst, ⊎_elim, arith}
+use Rattle.std.proofs.Common.{◌≡◌, ℕ, ◌+◌, ◌<◌, ◌≤◌, Bool, not, true, false, cond, ◌&&◌, eqb, ltb, List, [], ◌∷◌, ◌++◌, length, sym, refl, ap, ◌∙◌, subst, ⊎_elim, arith}
 use Rattle.std.proofs.Math.Path.{fun_ext}
-use Rattle.std.proofs.lemmas.Bool.{cond-true, cond-false, eq-eqb, ne_eqb, cases_eq, cases_Bool, and_from, and_left, and_right, lt-ltb, le-ltb, cases_lt}
+use Rattle.std.proofs.lemmas.Bool.{cond-true, cond-false, eq-eqb, ne_eqb, cases_eq, cases_Bool, and_parts, and_from, and_left, and_right, lt-ltb, le-ltb, cases_lt}
+use Rattle.std.specs.Ordering.{int_eq}
+use Rattle.std.specs.Cmp.Lexicographic.{pointwise}
+use Rattle.std.proofs.lemmas.Bool.Decides.{Decides-int_eq}
+use Rattle.std.proofs.lemmas.Slice.Eq.{slice_eq-Decides}
 use Rattle.store.specs.declared.Entry.{Entry}
-use Rattle.store.specs.Meaning.{Meaning, is_table, updated}
+use Rattle.store.specs.Meaning.{Meaning, Lawful, is_table, updated}
 use Rattle.store.proofs.Calls.{table_from}
 use Rattle.store_tools.specs.Visits.{Visited}
 
@@ -39,7 +43,21 @@ up_here n f m = cond-false (is_table n && ltb n n) _ _ (and_right (is_table n) _
 pub up_outside : (n : ℕ) (f : ℕ → List Entry) (m : Meaning) (u : ℕ) → is_table u ≡ false → (up_to n f m).tables u ≡ m.tables u
 up_outside n f m u e = cond-false (is_table u && ltb u n) _ _ (and_left (is_table u) (ltb u n) e)
 
+-- a number that has rows is a table's
+pub table_of_row : (m : Meaning) → Lawful m → (t p : ℕ) → p < length (m.tables t) → is_table t ≡ true
+table_of_row m law t p h = ⊎_elim (λ e. e) (λ e. absurd (omega (arith, h, ap length (law.outside t e)))) (cases_Bool (is_table t))
+
 -- ---- two stores
+
+-- what `!=` tells of two entries
+pub unequal : (a b : Entry) (r : Bool) → r ≡ not (int_eq a.key b.key && pointwise int_eq a.row b.row) → (r ≡ false → a ≡ b) × (r ≡ true → a ≡ b → ⊥)
+unequal a b r e =
+    let keys = Decides-int_eq a.key b.key in
+    let rows = slice_eq-Decides Decides-int_eq a.row b.row (pointwise int_eq a.row b.row) refl in (
+      λ f. let p = and_parts (int_eq a.key b.key) (pointwise int_eq a.row b.row) (grind (arith, e, f)) in
+          let k = keys.0 p.0 in let l = rows.0 p.1 in λ i. record { key = k i; row = l i },
+      λ t q. let p = and_from (int_eq a.key b.key) (pointwise int_eq a.row b.row) (keys.1 (ap (λ x. x.key) q)) (rows.1 (ap (λ x. x.row) q)) in grind (arith, e, t, p),
+    )
 
 -- the tables below n are the same
 abbrev pub Same : Meaning → Meaning → ℕ → Type 0

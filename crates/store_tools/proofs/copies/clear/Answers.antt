@@ -4,9 +4,6 @@ use Rattle.store.proofs.Calls.{is_table_lem}
 use Rattle.store_tools.proofs.Tables.{up_more, up_all, up_outside}
 use Rattle.store_tools.proofs.copies.clear.Goals as goal
 
-pub clear_table-requires : goal.clear_table-requires
-clear_table-requires g c = is_table_lem c.loop-table.table c.loop-table.auto.table c.loop-table-test.true
-
 pub loop-table-preserved : goal.loop-table-preserved
 loop-table-preserved g c = (
   c.clear_table.ensures.after ∙ ap (λ m. updated m c.loop-table.table []) c.loop-table.invariant.0

@@ -6,7 +6,6 @@ use Rattle.store_tools.proofs.copies.copy_tables.Goals as goal
 
 pub copy_table-requires : goal.copy_table-requires
 copy_table-requires g c = record {
-  table = is_table_lem c.loop-table.table c.loop-table.auto.table c.loop-table-test.true;
   limit = ap (λ m. m.limit) c.loop-table.invariant.0 ∙ ap (λ m. m.limit) c.requires;
   empty = ap (λ m. m.tables c.loop-table.table) c.loop-table.invariant.0
       ∙ up_here c.loop-table.table (g.A.Store.meaning c.args.from.now).tables (g.B.Store.meaning c.args.to.now)

@@ -11,10 +11,10 @@ pub loop-position-preserved : goal.loop-position-preserved
 loop-position-preserved g c =
     let rows = (g.S.Store.meaning c.args.store.now).tables c.args.table in
     let n = count_from (g.S.Store.meaning c.args.store.now) c.args.table c.in_ok-rows.rows c.in_ok-rows.ensures.answer in
-    let e : take c.loop-position.position ((g.S.Store.meaning c.args.store.now).tables c.args.table) ++ c.entry_of-entry.result ∷ [] ≡ take (c.loop-position.position + 1) ((g.S.Store.meaning c.args.store.now).tables c.args.table) =
-    ap (λ x. take c.loop-position.position ((g.S.Store.meaning c.args.store.now).tables c.args.table) ++ x ∷ []) c.entry_of-entry.ensures ∙ sym (take_more rows c.loop-position.position no_entry (omega (arith, n.1))) in
+    let e : take c.loop-position.position ((g.S.Store.meaning c.args.store.now).tables c.args.table) ++ c.entry_of.result ∷ [] ≡ take (c.loop-position.position + 1) ((g.S.Store.meaning c.args.store.now).tables c.args.table) =
+    ap (λ x. take c.loop-position.position ((g.S.Store.meaning c.args.store.now).tables c.args.table) ++ x ∷ []) c.entry_of.ensures ∙ sym (take_more rows c.loop-position.position no_entry (omega (arith, n.1))) in
     subst (λ r. Visited g.V.Visitor.takes c.args.visitor.now r c.visit.new.self) e
-    (visited_more g.V.Visitor.takes c.args.visitor.now c.loop-position.visitor c.visit.new.self (take c.loop-position.position rows) c.entry_of-entry.result c.loop-position.invariant c.visit.ensures)
+    (visited_more g.V.Visitor.takes c.args.visitor.now c.loop-position.visitor c.visit.new.self (take c.loop-position.position rows) c.entry_of.result c.loop-position.invariant c.visit.ensures)
 
 pub returns : goal.returns
 returns g c =
