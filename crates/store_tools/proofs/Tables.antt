@@ -1,5 +1,5 @@
 -- All tables of a store, one after another.
-use Rattle.std.proofs.Common.{◌≡◌, ℕ, ◌+◌, ◌<◌, ◌≤◌, Bool, not, true, false, cond, ◌&&◌, eqb, ltb, List, [], ◌∷◌, ◌++◌, length, sym, refl, ap, ◌∙◌, subst, ⊎_elim, arith}
+use Rattle.std.proofs.Common.{◌≡◌, ℕ, ◌+◌, ◌<◌, ◌≤◌, Bool, not, true, false, cond, ◌&&◌, eqb, ltb, List, [], length, sym, refl, ap, ◌∙◌, ⊎_elim, arith}
 use Rattle.std.proofs.Math.Path.{fun_ext}
 use Rattle.std.proofs.lemmas.Bool.{cond-true, cond-false, eq-eqb, ne_eqb, cases_eq, cases_Bool, and_parts, and_from, and_left, and_right, lt-ltb, le-ltb, cases_lt}
 use Rattle.std.specs.Ordering.{int_eq}
@@ -9,7 +9,6 @@ use Rattle.std.proofs.lemmas.Slice.Eq.{slice_eq-Decides}
 use Rattle.store.specs.declared.Entry.{Entry}
 use Rattle.store.specs.Meaning.{Meaning, Lawful, is_table, updated}
 use Rattle.store.proofs.Calls.{table_from}
-use Rattle.store_tools.specs.Visits.{Visited}
 
 -- m with the rows of f in the tables below n
 abbrev pub up_to : ℕ → (ℕ → List Entry) → Meaning → Meaning
@@ -70,9 +69,3 @@ pub same_all : (a b : Meaning) (n : ℕ) → a.limit ≡ b.limit → 9 ≤ n →
 same_all a b n l h s oa ob =
     let each : (u : ℕ) → a.tables u ≡ b.tables u = λ u. ⊎_elim (λ e. s u e (let t = table_from u e in omega arith)) (λ e. oa u e ∙ sym (ob u e)) (cases_Bool (is_table u)) in
     λ i. record { limit = l i; tables = fun_ext each i }
-
--- ---- rows taken one after another
-
-pub visited_more : {V : Type 0} (takes : V → Entry → V → Type 0) (s t u : V) (rows : List Entry) (e : Entry) → Visited takes s rows t → takes t e u → Visited takes s (rows ++ e ∷ []) u
-visited_more takes s t u [] e h k = (u, subst (λ x. takes x e u) (sym h) k, refl)
-visited_more takes s t u (r ∷ rs) e (v, p, q) k = (v, p, visited_more takes v t u rs e q k)

@@ -15,6 +15,7 @@ fn same_table<A: Store, B: Store>(a: &A, b: &B, table: usize) -> bool
     if rows_of(b, table) != rows {
         return false;
     }
+    // A closure for `all` needs a `requires` of its own here, so the loop is plainer.
     for i in 0..rows {
         if entry_of(a, table, i) != entry_of(b, table, i) {
             return false;
