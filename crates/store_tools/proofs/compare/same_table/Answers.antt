@@ -1,5 +1,5 @@
-use Rattle.std.proofs.Common.{◌≡◌, [], ◌∷◌, ◌++◌, get_or, take, sym, refl, ap, ◌∙◌, arith}
-use Rattle.std.proofs.lemmas.List.{take_more, take_all}
+use Rattle.std.proofs.Common.{◌≡◌, [], ◌∷◌, ◌++◌, get_or, take, sym, ap, ◌∙◌, arith}
+use Rattle.std.proofs.lemmas.List.{take_more}
 use Rattle.store.specs.Meaning.{no_entry}
 use Rattle.store_tools.proofs.Tables.{unequal}
 use Rattle.store_tools.proofs.compare.same_table.Goals as goal
@@ -21,13 +21,3 @@ returns-then-ne-clause-decides g c =
       (λ e. cc),
       (λ e. absurd (other (c.entry_of.ensures ∙ ap (λ r. get_or r c.loop-i.i no_entry) e ∙ sym c.entry_of-in-loop-i.ensures))),
     )
-
-pub returns : goal.returns
-returns g c =
-    let ra = (g.A.Store.meaning c.args.a.now).tables c.args.table in
-    let rb = (g.B.Store.meaning c.args.b.now).tables c.args.table in
-    record {
-      decides = ((λ _. sym (take_all c.loop-i.i ra (omega (arith, c.rows_of-rows.ensures.count))) ∙ c.loop-i.invariant ∙ take_all c.loop-i.i rb (omega (arith, c.rows_of-rows.ensures.count, c.rows_of.ensures.count))), λ _. refl);
-      first = c.rows_of-rows.ensures.lawful;
-      second = c.rows_of.ensures.lawful;
-    }

@@ -1,6 +1,5 @@
 use Rattle.std.proofs.Common.{◌≡◌, ◌+◌, [], ◌∷◌, ◌++◌, take, sym, ap, ◌∙◌, subst, arith}
-use Rattle.std.proofs.lemmas.List.{take_more, take_all}
-use Rattle.std.proofs.lemmas.Bool.{cond-true}
+use Rattle.std.proofs.lemmas.List.{take_more}
 use Rattle.std.proofs.lemmas.Fn.{FoldsTo-push}
 use Rattle.store.specs.Meaning.{no_entry}
 use Rattle.store.proofs.Calls.{count_from}
@@ -15,11 +14,3 @@ loop-position-preserved g c =
     ap (λ x. take c.loop-position.position ((g.S.Store.meaning c.args.store.now).tables c.args.table) ++ x ∷ []) c.entry_of.ensures ∙ sym (take_more rows c.loop-position.position no_entry (omega (arith, n.1))) in
     subst (λ r. Visited g.V.Visitor.takes c.args.visitor.now r c.visit.new.self) e
     (FoldsTo-push g.V.Visitor.takes c.args.visitor.now (take c.loop-position.position rows) c.loop-position.visitor c.entry_of.result c.visit.new.self c.loop-position.invariant c.visit.ensures)
-
-pub returns : goal.returns
-returns g c =
-    let n = count_from (g.S.Store.meaning c.args.store.now) c.args.table c.in_ok-rows.rows c.in_ok-rows.ensures.answer in
-    record {
-      answer = sym (cond-true _ _ _ n.0);
-      visited = subst (λ r. Visited g.V.Visitor.takes c.args.visitor.now r c.loop-position.visitor) (take_all c.loop-position.position ((g.S.Store.meaning c.args.store.now).tables c.args.table) (omega (arith, n.1))) c.loop-position.invariant;
-    }
