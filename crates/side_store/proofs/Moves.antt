@@ -1,32 +1,14 @@
--- The steps of a shift by one place.
+-- A shift by one place, and a part of the list after it.
 use Rattle.std.proofs.Common.{◌≡◌, ℕ, suc, ◌+◌, ◌-◌, ◌<◌, ◌≤◌, List, ◌∷◌, ◌++◌, length, get_or, take, drop, set, sym, ap, ◌∙◌, ⊎_elim, arith, rules}
 use Rattle.std.proofs.lemmas.List.{places, same_lists, get_or-set_same, length-take, get_or-take, get_or-drop}
 use Rattle.std.proofs.lemmas.List.Edits.{get_or-remove_above}
+use Rattle.std.specs.List.{copy_within}
 use Rattle.std.proofs.lemmas.Bool.{cases_eq, cases_lt}
 use Rattle.side_store.specs.Shifts.{opened, closed}
 
--- xs with what stood from i up to `to` one place on
-abbrev pub shifted : {X : Type 0} → List X → ℕ → ℕ → List X
-shifted xs i to = take (i + 1) xs ++ (take (to - i) (drop i xs) ++ drop (to + 1) xs)
-
--- xs with what stood after `from` up to i one place back
-abbrev pub pulled : {X : Type 0} → List X → ℕ → ℕ → List X
-pulled xs from i = take from xs ++ (take (i - from) (drop (from + 1) xs) ++ drop i xs)
-
-pub shifted_none : {X : Type 0} (xs : List X) (to : ℕ) → to < length xs → xs ≡ shifted xs to to
-shifted_none xs to h = same_lists _ _ (search (rules, places)) (λ k d l. grind (arith, places))
-
-pub shifted_more : {X : Type 0} (xs ys : List X) (i to : ℕ) (y : X) → to < length xs → 0 < i → i ≤ to → ys ≡ shifted xs i to → y ≡ get_or ys (i - 1) y → set ys (i - 1 + 1) y ≡ shifted xs (i - 1) to
-shifted_more xs ys i to y h p q e r = same_lists _ _ (search (rules, places)) (λ k d l. grind (arith, places, get_or-set_same, cases_eq k i))
-
-pub shifted_all : {X : Type 0} (xs : List X) (from to : ℕ) (y : X) → from ≤ to → to < length xs → set (shifted xs from to) from y ≡ opened xs from to y
-shifted_all xs from to y h q = same_lists _ _ (search (rules, places)) (λ k d l. grind (arith, places, get_or-set_same, cases_eq k from))
-
-pub pulled_none : {X : Type 0} (xs : List X) (from : ℕ) → xs ≡ pulled xs from from
-pulled_none xs from = same_lists _ _ (search (rules, places)) (λ k d l. grind (arith, places))
-
-pub pulled_more : {X : Type 0} (xs ys : List X) (from i : ℕ) (y : X) → from ≤ i → i + 1 < length xs → ys ≡ pulled xs from i → y ≡ get_or ys (i + 1) y → set ys i y ≡ pulled xs from (i + 1)
-pulled_more xs ys from i y h q e r = same_lists _ _ (search (rules, places)) (λ k d l. grind (arith, places, get_or-set_same, cases_eq k i))
+-- what `copy_within` and a write leave
+pub opened_copied : {X : Type 0} (xs : List X) (from to : ℕ) (y : X) → from ≤ to → to < length xs → set (copy_within xs from to (from + 1)) from y ≡ opened xs from to y
+opened_copied xs from to y h l = same_lists _ _ (search (rules, places)) (λ k d q. grind (arith, places, get_or-set_same, cases_eq k from))
 
 get_d_closed : {X : Type 0} (xs : List X) (from to j : ℕ) (d : X) → from ≤ j → j + 1 < to → to ≤ length xs → get_or (closed xs from to) j d ≡ get_or xs (j + 1) d
 get_d_closed xs from to j d h l w = grind (arith, places)

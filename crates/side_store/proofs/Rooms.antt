@@ -1,11 +1,13 @@
 -- The parts of a store with rows side by side, before and after a change of one.
-use Rattle.std.proofs.Common.{◌≡◌, ℕ, suc, ◌+◌, ◌-◌, ◌*◌, ◌<◌, ◌≤◌, true, false, ◌⊎◌, List, ◌∷◌, ◌++◌, length, get_or, take, drop, set, ℤ, Ok, Err, sym, ap, ◌∙◌, subst, inl, inr, ⊎_elim, mul-le-mul_right, add-mul, one-mul, arith, w32, SFits, to_z, of_z, rules}
+use Rattle.std.proofs.Common.{◌≡◌, ℕ, suc, ◌+◌, ◌-◌, ◌*◌, ◌<◌, ◌≤◌, true, false, ◌⊎◌, List, ◌∷◌, ◌++◌, length, get_or, take, drop, set, slice_range, ℤ, Ok, Err, sym, refl, ap, ◌∙◌, subst, inl, inr, ⊎_elim, mul-le-mul_right, add-mul, one-mul, arith, w32, SFits, to_z, of_z, rules}
 use Rattle.std.proofs.lemmas.List.{places, get_or-set_same, get_or-set_other, length-set, get_or-take, get_or-drop}
 use Rattle.std.proofs.lemmas.Int.{to_z-of_z}
 use Rattle.std.proofs.lemmas.Bool.{cases_order, cases_eq}
 use Rattle.store.specs.declared.Entry.{Entry}
-use Rattle.store.specs.Meaning.{is_limit, ascending, rank, holds, with_entry, without, sought, no_entry, put_answer, put_after, take_answer, take_after}
+use Rattle.std.specs.declared.ops.Range.{Range}
+use Rattle.store.specs.Meaning.{is_table, is_limit, ascending, rank, holds, with_entry, without, sought, no_entry, put_answer, put_after, take_answer, take_after}
 use Rattle.store.proofs.Rows.{rank_le, rank_lt, found_from, missed_from}
+use Rattle.store.proofs.Calls.{table_from}
 use Rattle.store.proofs.Keeping.{Kept}
 use Rattle.store.proofs.Keeping as keeping
 use Rattle.side_store.specs.declared.tables.SideStore.{SideStore}
@@ -21,7 +23,7 @@ pub record Held (limit : ℕ) (counts : List ℕ) (slots : List Entry) : Type 0 
   pub within : (u : ℕ) → u < 8 → get_or counts u 0 ≤ limit
   pub ascends : (u : ℕ) → u < 8 → ascending (part limit counts slots u) ≡ true
 
-pub held : (s : SideStore) → Held s.limit s.raw.counts s.raw.slots.now
+pub held : (s : SideStore) → Held s.limit s.counts s.slots.now
 held s = record { limited = s.limited; size = s.size; width = s.width; within = s.within; ascends = s.ascends }
 
 -- one step of a row of R places
@@ -130,13 +132,51 @@ module _ (R : ℕ) (counts : List ℕ) (slots : List Entry) (held : Held R count
       let done = keeping.take_here R (λ u. part R counts slots (u - 1)) t from to (kept R counts slots held) (λ u. part R (set counts (t - 1) (get_or counts (t - 1) 0 - 1)) slots' (u - 1)) there k row there-is row_at here in
       (done.0, done.1, changed R counts slots held (t - 1) (get_or counts (t - 1) 0 - 1) slots' size (omega arith) done.2)
 
--- a key that was sought by its bits
-pub missed : (k : ℤ) (rows : List Entry) (at : ℕ) → SFits w32 k → Err at ≡ sought (to_z w32 (of_z w32 k)) rows → (holds k rows ≡ false) × (rank k rows ≡ at)
-missed k rows at f e = missed_from k rows at (e ∙ ap (λ z. sought z rows) (to_z-of_z w32 k f))
+-- a key sought at the places of table t, from its first slot to behind its last one in use
+module _ (s : SideStore) (t : ℕ) (places : Range ℕ)
+    (at : (is_table t ≡ true) × (places.start ≡ (t - 1) * s.limit) × (places.end ≡ places.start + get_or s.counts (t - 1) 0) × (places.start + s.limit ≤ length s.slots.now)) where
+  here : slice_range s.slots.now places.start places.end ≡ part s.limit s.counts s.slots.now (t - 1)
+  here =
+      let n : places.end - places.start ≡ get_or s.counts (t - 1) 0 = omega (arith, at.2) in
+      ap (λ x. take x (drop places.start s.slots.now)) n ∙ ap (λ b. take (get_or s.counts (t - 1) 0) (drop b s.slots.now)) at.1
 
-pub found : (k : ℤ) (rows : List Entry) (at : ℕ) → SFits w32 k → Ok at ≡ sought (to_z w32 (of_z w32 k)) rows → (holds k rows ≡ true) × (rank k rows ≡ at)
-found k rows at f e = found_from k rows at (e ∙ ap (λ z. sought z rows) (to_z-of_z w32 k f))
+  -- the key by its bits
+  key_at : (k : ℤ) → SFits w32 k → sought (to_z w32 (of_z w32 k)) (slice_range s.slots.now places.start places.end) ≡ sought k (part s.limit s.counts s.slots.now (t - 1))
+  key_at k f = ap (λ z. sought z (slice_range s.slots.now places.start places.end)) (to_z-of_z w32 k f) ∙ ap (sought k) here
 
--- the same with the counts by another name
-pub counted : (limit : ℕ) (counts counts' : List ℕ) (slots : List Entry) → counts' ≡ counts → Held limit counts slots → Held limit counts' slots
-counted limit counts counts' slots e h = subst (λ n. Held limit n slots) (sym e) h
+  pub ordered : places.start ≤ places.end
+  ordered = omega (arith, at.2)
+
+  pub ascending_here : ascending (slice_range s.slots.now places.start places.end) ≡ true
+  ascending_here = let h = table_from t at.0 in ap ascending here ∙ s.ascends (t - 1) (omega arith)
+
+  pub missed : (k : ℤ) (i : ℕ) → SFits w32 k → Err i ≡ sought (to_z w32 (of_z w32 k)) (slice_range s.slots.now places.start places.end)
+      → (i ≤ get_or s.counts (t - 1) 0) × (holds k (part s.limit s.counts s.slots.now (t - 1)) ≡ false) × (rank k (part s.limit s.counts s.slots.now (t - 1)) ≡ i)
+  missed k i f e =
+      let h = table_from t at.0 in
+      let m = missed_from k _ i (e ∙ key_at k f) in
+      (omega (arith, m.1, rank_le k (part s.limit s.counts s.slots.now (t - 1)), length_part s.limit s.counts s.slots.now (held s) (t - 1) (omega arith)), m.0, m.1)
+
+  pub found : (k : ℤ) (i : ℕ) → SFits w32 k → Ok i ≡ sought (to_z w32 (of_z w32 k)) (slice_range s.slots.now places.start places.end)
+      → (i < get_or s.counts (t - 1) 0) × (holds k (part s.limit s.counts s.slots.now (t - 1)) ≡ true) × (rank k (part s.limit s.counts s.slots.now (t - 1)) ≡ i)
+  found k i f e =
+      let h = table_from t at.0 in
+      let m = found_from k _ i (e ∙ key_at k f) in
+      (omega (arith, m.1, rank_lt k (part s.limit s.counts s.slots.now (t - 1)) m.0, length_part s.limit s.counts s.slots.now (held s) (t - 1) (omega arith)), m.0, m.1)
+
+  pub put_done : (k : ℤ) (row : List ℤ) (i : ℕ) (slots' : List Entry) → SFits w32 k → Err i ≡ sought (to_z w32 (of_z w32 k)) (slice_range s.slots.now places.start places.end)
+      → places.end - places.start < s.limit → slots' ≡ opened s.slots.now (places.start + i) places.end (record { key = to_z w32 (of_z w32 k); row = row })
+      → (Ok tt ≡ put_answer (meant s.limit s.counts s.slots.now) t k) × (meant s.limit (set s.counts (t - 1) (get_or s.counts (t - 1) 0 + 1)) slots' ≡ put_after (meant s.limit s.counts s.slots.now) t (record { key = k; row = row })) × Held s.limit (set s.counts (t - 1) (get_or s.counts (t - 1) 0 + 1)) slots'
+  put_done k row i slots' f e room is =
+      let h = table_from t at.0 in
+      let m = missed k i f e in
+      put_here s.limit s.counts s.slots.now (held s) t h.0 h.1 (record { key = k; row = row }) slots' places.start i at.1 (omega (arith, at.2)) (m.1, m.2)
+      (is ∙ ap (λ z. opened s.slots.now (places.start + i) places.end (record { key = z; row = row })) (to_z-of_z w32 k f) ∙ ap (λ to. opened s.slots.now (places.start + i) to (record { key = k; row = row })) at.2)
+
+  pub take_done : (k : ℤ) (i : ℕ) (slots' : List Entry) → SFits w32 k → Ok i ≡ sought (to_z w32 (of_z w32 k)) (slice_range s.slots.now places.start places.end)
+      → slots' ≡ closed s.slots.now (places.start + i) places.end
+      → (Ok (get_or s.slots.now (places.start + i) no_entry).row ≡ take_answer (meant s.limit s.counts s.slots.now) t k) × (meant s.limit (set s.counts (t - 1) (get_or s.counts (t - 1) 0 - 1)) slots' ≡ take_after (meant s.limit s.counts s.slots.now) t k) × Held s.limit (set s.counts (t - 1) (get_or s.counts (t - 1) 0 - 1)) slots'
+  take_done k i slots' f e is =
+      let h = table_from t at.0 in
+      let m = found k i f e in
+      take_here s.limit s.counts s.slots.now (held s) t h.0 h.1 k _ slots' places.start i at.1 (m.1, m.2) refl (is ∙ ap (closed s.slots.now (places.start + i)) at.2)

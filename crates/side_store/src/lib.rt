@@ -2,7 +2,6 @@
 #![tactic(auto)]
 
 mod shifts;
-mod slots;
 mod tables;
 
 pub use tables::SideStore;

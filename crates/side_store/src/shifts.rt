@@ -8,9 +8,7 @@ pub fn open<T: Copy>(items: &mut [T], from: usize, to: usize, item: T)
     requires room { to < length items.old }
     ensures { items.new ≡ opened items.old from to item }
 {
-    for i in (from..to).rev() {
-        items[i + 1] = items[i];
-    }
+    items.copy_within(from..to, from + 1);
     items[from] = item;
 }
 
@@ -20,7 +18,5 @@ pub fn close<T: Copy>(items: &mut [T], from: usize, to: usize)
     requires room { to ≤ length items.old }
     ensures { items.new ≡ closed items.old from to }
 {
-    for i in from..to - 1 {
-        items[i] = items[i + 1];
-    }
+    items.copy_within(from + 1..to, from);
 }

@@ -56,6 +56,12 @@ pub above_trans : (a b : ℤ) (rows : List Entry) → a <ℤ b → Above b rows 
 above_trans a b [] h t = tt
 above_trans a b (e ∷ es) h (p, q) = (lt_trans a b e.key h p, above_trans a b es h q)
 
+-- a row behind a key
+pub above_at : (a : ℤ) (rows : List Entry) (i : ℕ) (d : Entry) → Above a rows → i < length rows → a <ℤ (get_or rows i d).key
+above_at a [] i d h l = absurd (omega arith)
+above_at a (r ∷ rs) zero d (p, q) l = p
+above_at a (r ∷ rs) (suc i) d (p, q) l = above_at a rs i d q (omega arith)
+
 above_insert : (a : ℤ) (e : Entry) (rows : List Entry) (i : ℕ) → a <ℤ e.key → Above a rows → Above a (take i rows ++ e ∷ drop i rows)
 above_insert a e rows zero h t = (h, t)
 above_insert a e [] (suc i) h t = (h, tt)

@@ -2,7 +2,7 @@
 #![tactic(auto)]
 
 ghost use Rattle.std.specs.Prelude.{◌≡◌, ◌*◌, ◌<◌, ◌≤◌, true, IfOk};
-ghost use Rattle.store.specs.Meaning.{Meaning, Lawful, count_of, key_at, row_at, put_answer, put_after, take_answer, take_after, needed, is_limit};
+ghost use Rattle.store.specs.Meaning.{Meaning, Lawful, count_of, key_at, row_at, put_answer, put_after, take_answer, take_after, needed, is_limit, is_table, unless14};
 
 use faults::Fault;
 
@@ -16,7 +16,7 @@ pub const TABLES: usize = 8;
 pub const MOST_ROWS: usize = 64;
 
 /// A row of a table with its key.
-#[derive(Clone, Copy)]
+#[derive(Clone, Copy, Debug, PartialEq, Eq)]
 pub struct Entry {
     pub key: i32,
     pub row: [i32; WIDTH],
@@ -55,13 +55,23 @@ pub trait Store {
         ensures after { meaning self.new ≡ take_after (meaning self.old) table key };
 }
 
+/// Refuses a number that is no table's.
+pub fn check_table(table: usize) -> Result<(), Fault>
+    ensures { result ≡ unless14 (is_table table) tt table }
+{
+    if !(1..=TABLES).contains(&table) {
+        return Err(Fault::NotThere { table });
+    }
+    Ok(())
+}
+
 /// How many records a store of the row limit `limit` needs, where `records` of them are at hand.
 /// It is asked before the memory is lent, so a refusal leaves that as it was.
 pub fn records_needed(limit: usize, records: usize) -> Result<usize, Fault>
     ensures answer { result ≡ needed limit records }
     ensures enough { IfOk result (λ n. (is_limit limit ≡ true) × (n ≡ 8 * limit) × (8 * limit ≤ records)) }
 {
-    if limit == 0 || limit > MOST_ROWS {
+    if !(1..=MOST_ROWS).contains(&limit) {
         return Err(Fault::BadLimit { rows: limit });
     }
     let needed = TABLES * limit;

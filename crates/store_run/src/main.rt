@@ -32,8 +32,7 @@ fn print_round(
     match round {
         Err(fault) => println!(rt; "{name}, limit {limit}: {fault}"),
         Ok(tally) => {
-            let steps = tally.steps;
-            let apart = tally.apart;
+            let Tally { steps, apart, .. } = tally;
             println!(rt; "{name}, limit {limit}: {steps} steps, {apart} apart")
         }
     }
@@ -72,12 +71,7 @@ fn compare(rt: &HostRuntime) -> io::Result<()> {
 }
 
 fn main(rt: HostRuntime) -> io::Result<()> {
-    let mut timed = false;
-    for arg in env::args(&rt)? {
-        if arg.as_str() == "time" {
-            timed = true;
-        }
-    }
+    let timed = env::args(&rt)?.any(|arg| arg.as_str() == "time");
     if timed {
         print_times(&rt)
     } else {

@@ -1,13 +1,14 @@
 //! The tables as a plain `Vec`, sorted by table and key: what both stores are compared with.
-ghost use Rattle.std.specs.Prelude.{◌≤◌, vec_len};
+ghost use Rattle.std.specs.Prelude.{◌<◌, ◌≤◌, vec_len, IfOk, IfErr};
 
+use super::steps::Tables;
 use faults::Fault;
 use std::alloc::Global;
-use store::{Entry, TABLES, WIDTH};
+use store::{Entry, WIDTH, check_table};
 
 /// A row with its key and its table.
 #[derive(Clone, Copy)]
-pub struct Placed {
+struct Placed {
     table: usize,
     entry: Entry,
 }
@@ -16,11 +17,6 @@ pub struct Placed {
 pub struct Plain {
     limit: usize,
     rows: Vec<Placed>,
-}
-
-/// Whether a number names a table.
-fn is_table(table: usize) -> bool {
-    table >= 1 && table <= TABLES
 }
 
 impl Plain {
@@ -32,76 +28,62 @@ impl Plain {
         }
     }
 
-    /// How many rows stand before those of this table and key.
-    fn place(&self, table: usize, key: i32) -> usize
-        ensures { result ≤ vec_len self.now.rows }
+    /// The place of the row of this table and key, or where it would go.
+    fn find(&self, table: usize, key: i32) -> Result<usize, usize>
+        ensures there { IfOk result (λ at. at < vec_len self.now.rows) }
+        ensures absent { IfErr result (λ at. at ≤ vec_len self.now.rows) }
     {
-        for (i, placed) in self.rows.iter().enumerate() {
-            if placed.table > table || (placed.table == table && placed.entry.key >= key) {
-                return i;
-            }
-        }
-        self.rows.len()
-    }
-
-    /// Whether the row at place `at` is that of this table and key.
-    fn stands(&self, at: usize, table: usize, key: i32) -> bool {
-        match self.rows.get(at) {
-            Some(placed) => placed.table == table && placed.entry.key == key,
-            None => false,
-        }
-    }
-
-    /// How many rows a table has.
-    pub fn count(&self, table: usize) -> Result<usize, Fault> {
-        if !is_table(table) {
-            return Err(Fault::NotThere { table });
-        }
-        let mut n: usize = 0;
-        for placed in self.rows.iter() {
-            if placed.table == table {
-                n = n.wrapping_add(1);
-            }
-        }
-        Ok(n)
+        self.rows
+            .binary_search_by_key(&(table, key), |placed| (placed.table, placed.entry.key))
     }
 
     /// The entry at a position of a table.
-    pub fn entry_at(&self, table: usize, position: usize) -> Result<Entry, Fault> {
-        let mut n: usize = 0;
-        for placed in self.rows.iter() {
-            if placed.table == table {
-                if n == position {
-                    return Ok(placed.entry);
-                }
-                n = n.wrapping_add(1);
+    fn entry_at(&self, table: usize, position: usize) -> Result<Entry, Fault> {
+        self.rows
+            .iter()
+            .filter(|placed| placed.table == table)
+            .nth(position)
+            .map(|placed| placed.entry)
+            .ok_or(Fault::NotThere { table })
+    }
+}
+
+impl Tables for Plain {
+    fn count(&self, table: usize) -> Result<usize, Fault> {
+        check_table(table)?;
+        Ok(
+            self.rows
+                .iter()
+                .filter(|placed| placed.table == table)
+                .count(),
+        )
+    }
+
+    fn key_at(&self, table: usize, position: usize) -> Result<i32, Fault> {
+        Ok(self.entry_at(table, position)?.key)
+    }
+
+    fn row_at(&self, table: usize, position: usize) -> Result<[i32; WIDTH], Fault> {
+        Ok(self.entry_at(table, position)?.row)
+    }
+
+    fn put(&mut self, table: usize, key: i32, row: [i32; WIDTH]) -> Result<(), Fault> {
+        let rows = self.count(table)?;
+        match self.find(table, key) {
+            Ok(_) => Err(Fault::KeyTaken { table }),
+            Err(_) if rows >= self.limit => Err(Fault::TableFull { table }),
+            Err(at) => {
+                let entry = Entry { key, row };
+                self.rows.insert(at, Placed { table, entry })?;
+                Ok(())
             }
         }
-        Err(Fault::NotThere { table })
     }
 
-    /// Puts a row under a key.
-    pub fn put(&mut self, table: usize, key: i32, row: [i32; WIDTH]) -> Result<(), Fault> {
-        let rows = self.count(table)?;
-        let at = self.place(table, key);
-        if self.stands(at, table, key) {
-            return Err(Fault::KeyTaken { table });
+    fn take(&mut self, table: usize, key: i32) -> Result<[i32; WIDTH], Fault> {
+        match self.find(table, key) {
+            Ok(at) => Ok(self.rows.remove(at).entry.row),
+            Err(_) => Err(Fault::NotThere { table }),
         }
-        if rows >= self.limit {
-            return Err(Fault::TableFull { table });
-        }
-        let entry = Entry { key, row };
-        self.rows.insert(at, Placed { table, entry })?;
-        Ok(())
-    }
-
-    /// Takes a key out.
-    pub fn take(&mut self, table: usize, key: i32) -> Result<[i32; WIDTH], Fault> {
-        let at = self.place(table, key);
-        if at < self.rows.len() && self.stands(at, table, key) {
-            let placed = self.rows.remove(at);
-            return Ok(placed.entry.row);
-        }
-        Err(Fault::NotThere { table })
     }
 }

@@ -2,7 +2,7 @@
 ghost use Rattle.std.specs.Prelude.{◌<◌, ◌≤◌};
 
 use super::plain::Plain;
-use super::steps::{Step, Tally, Work, same_table, take_step};
+use super::steps::{Step, Tally, Work, same_table};
 use chain::Cell;
 use chained_store::ChainedStore;
 use faults::Fault;
@@ -26,116 +26,91 @@ pub const BLANK_CELL: Cell<Entry> = Cell {
     value: BLANK,
 };
 
-/// Whether an entry is as it was before a store was made.
-fn is_blank(entry: Entry) -> bool {
-    entry.key == BLANK.key && entry.row == BLANK.row
-}
-
-/// Whether slots are as they were before a store was made.
-fn blank_slots(slots: &[Entry]) -> bool {
-    for slot in slots {
-        if !is_blank(*slot) {
-            return false;
-        }
-    }
-    true
-}
-
-/// Whether cells are as they were before a store was made.
-fn blank_cells(cells: &[Cell<Entry>]) -> bool {
-    for cell in cells {
-        if cell.next != BLANK_CELL.next || !is_blank(cell.value) {
-            return false;
-        }
-    }
-    true
-}
-
-/// Both stores and the plain rows compared whole, tables that are none included.
-fn compared<A: Store, B: Store>(a: &A, b: &B, plain: &Plain, tally: Tally) -> Tally {
-    let mut t = tally.held_to(same(a, b));
-    for table in 0..10 {
-        t = t.held_to(same_table(a, plain, table) && same_table(b, plain, table));
-    }
-    t
-}
-
-/// The keys from -limit up to limit, each once as `i` goes up to twice the limit, where 7 and that have no common factor.
-fn scripted_key(i: u16, limit: u16) -> i32
-    requires few { i < 128 }
-    requires limit { (1 ≤ limit) × (limit ≤ 64) }
-{
-    i32::from(7 * i % (2 * limit)) - i32::from(limit)
-}
-
-/// The same work on one table with twice as many keys as it takes rows.
-fn scripted_table<A: Store, B: Store>(
-    a: &mut A,
-    b: &mut B,
-    plain: &mut Plain,
-    work: Work,
-    table: usize,
+/// Two stores and plain rows of one limit that take the same steps, and what came of it.
+#[derive(Drop)]
+struct Race<A, B> {
+    a: A,
+    b: B,
+    plain: Plain,
     limit: u16,
     tally: Tally,
-) -> Tally
-    requires { (1 ≤ limit) × (limit ≤ 64) }
-{
-    let mut t = tally;
-    for i in 0..2 * limit {
-        let key = scripted_key(i, limit);
-        let number = i32::from(i);
-        let step = Step {
-            work,
-            table,
-            key,
-            number,
-        };
-        t = take_step(a, b, plain, step, t);
-    }
-    t
+    ghost limited: { (1 ≤ limit) × (limit ≤ 64) },
 }
 
-/// The same work on all tables, and on the numbers right before and after them.
-fn scripted_phase<A: Store, B: Store>(
-    a: &mut A,
-    b: &mut B,
-    plain: &mut Plain,
-    work: Work,
-    limit: u16,
-    tally: Tally,
-) -> Tally
-    requires { (1 ≤ limit) × (limit ≤ 64) }
-{
-    let mut t = tally;
-    for table in 0..10 {
-        t = scripted_table(a, b, plain, work, table, limit, t);
+impl<A: Store, B: Store> Race<A, B> {
+    /// Takes one step everywhere, and compares the answers and the table that it is about.
+    fn step(&mut self, step: Step) {
+        let expected = step.run(&mut self.plain);
+        let first = step.run(&mut self.a);
+        let second = step.run(&mut self.b);
+        self.tally.count(step.work, expected);
+        self.tally.hold(first == expected && second == expected);
+        self.compare_table(step.table);
     }
-    compared(a, b, plain, t)
-}
 
-/// All keys put, put again, and taken out. A table takes the first half of the keys and is full for the others;
-/// put again, the first half is there; taken out, the second half is absent.
-pub fn scripted_round(heap: Global, limit: u16) -> Result<Tally, Fault>
-    requires { (1 ≤ limit) × (limit ≤ 64) }
-{
-    let rows = usize::from(limit);
-    let mut cells = [BLANK_CELL; RECORDS];
-    let mut slots = [BLANK; RECORDS];
-    let records = records_needed(rows, RECORDS)?;
-    let mut chained = ChainedStore::new(&mut cells, rows);
-    let mut side = SideStore::new(&mut slots, rows);
-    let mut plain = Plain::new(heap, rows);
-    let t = scripted_phase(
-        &mut chained,
-        &mut side,
-        &mut plain,
-        Work::Put,
-        limit,
-        Tally::NONE,
-    );
-    let t = scripted_phase(&mut chained, &mut side, &mut plain, Work::Put, limit, t);
-    let t = scripted_phase(&mut chained, &mut side, &mut plain, Work::Take, limit, t);
-    Ok(t.held_to(blank_cells(&cells[records..]) && blank_slots(&slots[records..])))
+    /// Compares a table of both stores with the plain rows.
+    fn compare_table(&mut self, table: usize) {
+        let same = same_table(&self.a, &self.plain, table)
+            && same_table(&self.b, &self.plain, table);
+        self.tally.hold(same);
+    }
+
+    /// Compares everything, tables that are none included.
+    fn compare(&mut self) {
+        self.tally.hold(same(&self.a, &self.b));
+        for table in 0..10 {
+            self.compare_table(table);
+        }
+    }
+
+    /// The keys from -limit up to limit, each once as `i` goes up to twice the limit, where 7 and that have no common factor.
+    fn scripted_key(&self, i: u16) -> i32
+        requires { i < 128 }
+    {
+        i32::from(7 * i % (2 * self.limit)) - i32::from(self.limit)
+    }
+
+    /// The same work on one table with twice as many keys as it takes rows.
+    fn script_table(&mut self, work: Work, table: usize) {
+        for i in 0..2 * self.limit {
+            let key = self.scripted_key(i);
+            let number = i32::from(i);
+            self.step(Step {
+                work,
+                table,
+                key,
+                number,
+            });
+        }
+    }
+
+    /// The same work on all tables, and on the numbers right before and after them.
+    fn script(&mut self, work: Work) {
+        for table in 0..10 {
+            self.script_table(work, table);
+        }
+        self.compare();
+    }
+
+    /// Mixed steps, drawn by a linear rule from one number to the next.
+    fn mix(&mut self, steps: u16) {
+        let mut random: u32 = 1;
+        for i in 0..steps {
+            random = random.wrapping_mul(1_664_525).wrapping_add(1_013_904_223);
+            self.step(mixed_step(random, i32::from(i)));
+        }
+        self.compare();
+    }
+
+    /// Copies the first store into the second and compares them, then empties both and compares them with no rows.
+    fn copy_and_clear(&mut self, none: Plain) {
+        let done = copy_store(&self.a, &mut self.b).is_ok();
+        self.tally.hold(done && same(&self.a, &self.b));
+        clear(&mut self.a);
+        clear(&mut self.b);
+        self.plain = none;
+        self.compare();
+    }
 }
 
 /// A step made of a random number: any table or none, a few keys, a put or a take.
@@ -155,35 +130,48 @@ fn mixed_step(random: u32, number: i32) -> Step {
     }
 }
 
-/// Mixed steps, drawn by a linear rule from one number to the next.
-fn mixed_steps<A: Store, B: Store>(a: &mut A, b: &mut B, plain: &mut Plain, steps: u16) -> Tally {
-    let mut t = Tally::NONE;
-    let mut random: u32 = 1;
-    for i in 0..steps {
-        random = random.wrapping_mul(1_664_525).wrapping_add(1_013_904_223);
-        t = take_step(a, b, plain, mixed_step(random, i32::from(i)), t);
-    }
-    compared(a, b, plain, t)
-}
-
-/// Copies a store into another and compares them, then empties the other and compares it with no rows.
-fn copied<A: Store, B: Store>(from: &A, to: &mut B, none: &Plain, tally: Tally) -> Tally {
-    let done = copy_store(from, to).is_ok();
-    let t = tally.held_to(done && same(from, to));
-    clear(to);
-    compared(to, to, none, t)
-}
-
-/// A round of mixed steps, in which tables get full and empty again.
-pub fn mixed_round(heap: Global, limit: u16, steps: u16) -> Result<Tally, Fault> {
+/// Runs a round over fresh stores, and sees that the memory beyond what they need stays as it was.
+fn round<F>(heap: Global, limit: u16, run: F) -> Result<Tally, Fault>
+where
+    F: FnOnce(&mut Race<ChainedStore<'_>, SideStore<'_>>),
+    requires { F.IsAlwaysCallable run }
+{
     let rows = usize::from(limit);
     let mut cells = [BLANK_CELL; RECORDS];
     let mut slots = [BLANK; RECORDS];
     let records = records_needed(rows, RECORDS)?;
-    let mut chained = ChainedStore::new(&mut cells, rows);
-    let mut side = SideStore::new(&mut slots, rows);
-    let mut plain = Plain::new(heap, rows);
-    let t = mixed_steps(&mut chained, &mut side, &mut plain, steps);
-    let t = copied(&chained, &mut side, &Plain::new(heap, rows), t);
-    Ok(t.held_to(blank_cells(&cells[records..]) && blank_slots(&slots[records..])))
+    let mut race = Race {
+        a: ChainedStore::new(&mut cells, rows),
+        b: SideStore::new(&mut slots, rows),
+        plain: Plain::new(heap, rows),
+        limit,
+        tally: Tally::default(),
+    };
+    run(&mut race);
+    let mut tally = race.tally;
+    drop(race);
+    let blank_cells = cells[records..]
+        .iter()
+        .all(|cell| cell.next == BLANK_CELL.next && cell.value == BLANK);
+    let blank_slots = slots[records..].iter().all(|slot| *slot == BLANK);
+    tally.hold(blank_cells && blank_slots);
+    Ok(tally)
+}
+
+/// All keys put, put again, and taken out. A table takes the first half of the keys and is full for the others;
+/// put again, the first half is there; taken out, the second half is absent.
+pub fn scripted_round(heap: Global, limit: u16) -> Result<Tally, Fault> {
+    round(heap, limit, |race| {
+        race.script(Work::Put);
+        race.script(Work::Put);
+        race.script(Work::Take);
+    })
+}
+
+/// A round of mixed steps, in which tables get full and empty again.
+pub fn mixed_round(heap: Global, limit: u16, steps: u16) -> Result<Tally, Fault> {
+    round(heap, limit, |race| {
+        race.mix(steps);
+        race.copy_and_clear(Plain::new(heap, usize::from(limit)));
+    })
 }

@@ -1,7 +1,41 @@
-//! One step on both stores and the plain rows, and what the answers come to.
-use super::plain::Plain;
+//! The steps that stores and plain rows take alike, and what their answers come to.
 use faults::Fault;
-use store::{Entry, Store, WIDTH};
+use store::{Store, WIDTH};
+
+/// Tables of rows, be they a store or plain rows.
+pub trait Tables {
+    fn count(&self, table: usize) -> Result<usize, Fault>;
+
+    fn key_at(&self, table: usize, position: usize) -> Result<i32, Fault>;
+
+    fn row_at(&self, table: usize, position: usize) -> Result<[i32; WIDTH], Fault>;
+
+    fn put(&mut self, table: usize, key: i32, row: [i32; WIDTH]) -> Result<(), Fault>;
+
+    fn take(&mut self, table: usize, key: i32) -> Result<[i32; WIDTH], Fault>;
+}
+
+impl<S: Store> Tables for S {
+    fn count(&self, table: usize) -> Result<usize, Fault> {
+        Store::count(self, table)
+    }
+
+    fn key_at(&self, table: usize, position: usize) -> Result<i32, Fault> {
+        Store::key_at(self, table, position)
+    }
+
+    fn row_at(&self, table: usize, position: usize) -> Result<[i32; WIDTH], Fault> {
+        Store::row_at(self, table, position)
+    }
+
+    fn put(&mut self, table: usize, key: i32, row: [i32; WIDTH]) -> Result<(), Fault> {
+        Store::put(self, table, key, row)
+    }
+
+    fn take(&mut self, table: usize, key: i32) -> Result<[i32; WIDTH], Fault> {
+        Store::take(self, table, key)
+    }
+}
 
 #[derive(Clone, Copy)]
 pub enum Work {
@@ -18,8 +52,39 @@ pub struct Step {
     pub number: i32,
 }
 
+impl Step {
+    /// The row that the step puts.
+    fn row(self) -> [i32; WIDTH] {
+        let mut row = [self.key; WIDTH];
+        row[0] = self.number;
+        row
+    }
+
+    /// What tables answer to the step: the row that was put or taken out.
+    pub fn run<T: Tables>(self, tables: &mut T) -> Result<[i32; WIDTH], Fault> {
+        match self.work {
+            Work::Take => tables.take(self.table, self.key),
+            Work::Put => {
+                let row = self.row();
+                tables.put(self.table, self.key, row)?;
+                Ok(row)
+            }
+        }
+    }
+}
+
+/// Whether a table has the same rows twice, and ends at the same position.
+pub fn same_table<A: Tables, B: Tables>(a: &A, b: &B, table: usize) -> bool {
+    let count = a.count(table);
+    b.count(table) == count
+        && (0..=count.unwrap_or(0)).all(|position| {
+            a.key_at(table, position) == b.key_at(table, position)
+                && a.row_at(table, position) == b.row_at(table, position)
+        })
+}
+
 /// How many steps there were, how often each answer came, and how often something was not the same.
-#[derive(Clone, Copy)]
+#[derive(Clone, Copy, Default)]
 pub struct Tally {
     pub steps: u32,
     pub put: u32,
@@ -31,110 +96,23 @@ pub struct Tally {
 }
 
 impl Tally {
-    pub const NONE: Tally = Tally {
-        steps: 0,
-        put: 0,
-        out: 0,
-        there: 0,
-        full: 0,
-        absent: 0,
-        apart: 0,
-    };
-
     /// One answer more.
-    fn counted(self, work: Work, answer: Result<[i32; WIDTH], Fault>) -> Tally {
-        let mut t = self;
-        t.steps = t.steps.wrapping_add(1);
-        match answer {
-            Ok(_) => match work {
-                Work::Put => t.put = t.put.wrapping_add(1),
-                Work::Take => t.out = t.out.wrapping_add(1),
-            },
-            Err(Fault::KeyTaken { .. }) => t.there = t.there.wrapping_add(1),
-            Err(Fault::TableFull { .. }) => t.full = t.full.wrapping_add(1),
-            Err(_) => t.absent = t.absent.wrapping_add(1),
-        }
-        t
+    pub fn count(&mut self, work: Work, answer: Result<[i32; WIDTH], Fault>) {
+        self.steps = self.steps.wrapping_add(1);
+        let times = match (answer, work) {
+            (Ok(_), Work::Put) => &mut self.put,
+            (Ok(_), Work::Take) => &mut self.out,
+            (Err(Fault::KeyTaken { .. }), _) => &mut self.there,
+            (Err(Fault::TableFull { .. }), _) => &mut self.full,
+            (Err(_), _) => &mut self.absent,
+        };
+        *times = times.wrapping_add(1);
     }
 
     /// One difference more, unless things are the same.
-    pub fn held_to(self, same: bool) -> Tally {
-        let mut t = self;
+    pub fn hold(&mut self, same: bool) {
         if !same {
-            t.apart = t.apart.wrapping_add(1);
-        }
-        t
-    }
-}
-
-/// The row that a step puts.
-fn row_of(step: Step) -> [i32; WIDTH] {
-    let mut row = [step.key; WIDTH];
-    row[0] = step.number;
-    row
-}
-
-/// What a store answers to a step: the row that was put or taken out.
-fn answer_of<S: Store>(store: &mut S, step: Step) -> Result<[i32; WIDTH], Fault> {
-    match step.work {
-        Work::Take => store.take(step.table, step.key),
-        Work::Put => {
-            let row = row_of(step);
-            store.put(step.table, step.key, row)?;
-            Ok(row)
+            self.apart = self.apart.wrapping_add(1);
         }
     }
-}
-
-/// What the plain rows answer to a step.
-fn plain_answer(plain: &mut Plain, step: Step) -> Result<[i32; WIDTH], Fault> {
-    match step.work {
-        Work::Take => plain.take(step.table, step.key),
-        Work::Put => {
-            let row = row_of(step);
-            plain.put(step.table, step.key, row)?;
-            Ok(row)
-        }
-    }
-}
-
-/// Whether a store tells the same of a position as the plain rows.
-fn same_position<S: Store>(store: &S, plain: &Plain, table: usize, position: usize) -> bool {
-    let key = store.key_at(table, position);
-    let row = store.row_at(table, position);
-    match plain.entry_at(table, position) {
-        Ok(entry) => key == Ok(entry.key) && row == Ok(entry.row),
-        Err(fault) => key == Err(fault) && row == Err(fault),
-    }
-}
-
-/// Whether a table is the same in a store as in the plain rows, and ends at the same position.
-pub fn same_table<S: Store>(store: &S, plain: &Plain, table: usize) -> bool {
-    let count = plain.count(table);
-    if store.count(table) != count {
-        return false;
-    }
-    for position in 0..=count.unwrap_or(0) {
-        if !same_position(store, plain, table, position) {
-            return false;
-        }
-    }
-    true
-}
-
-/// Takes one step everywhere, and compares the answers and the table that it is about.
-pub fn take_step<A: Store, B: Store>(
-    a: &mut A,
-    b: &mut B,
-    plain: &mut Plain,
-    step: Step,
-    tally: Tally,
-) -> Tally {
-    let expected = plain_answer(plain, step);
-    let first = answer_of(a, step);
-    let second = answer_of(b, step);
-    tally
-        .counted(step.work, expected)
-        .held_to(first == expected && second == expected)
-        .held_to(same_table(a, plain, step.table) && same_table(b, plain, step.table))
 }

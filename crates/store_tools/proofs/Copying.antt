@@ -1,13 +1,12 @@
 -- Rows put one after another into an empty table, and taken out one after another.
-use Rattle.std.proofs.Common.{◌≡◌, ℕ, zero, suc, ◌+◌, ◌<◌, ◌≤◌, Bool, true, false, cond, eqb, List, [], ◌∷◌, ◌++◌, length, get_or, take, drop, ℤ, ◌≤ℤ◌, ◌<ℤ◌, sym, refl, ap, ◌∙◌, arith}
+use Rattle.std.proofs.Common.{◌≡◌, ℕ, zero, suc, ◌+◌, ◌<◌, ◌≤◌, Bool, true, false, cond, eqb, List, [], ◌∷◌, ◌++◌, length, get_or, take, drop, sym, refl, ap, ◌∙◌, arith}
 use Rattle.std.proofs.Math.Path.{fun_ext}
-use Rattle.std.proofs.lemmas.List.{take_more, take-take, drop_all, drop_more, length-take-le}
-use Rattle.std.proofs.lemmas.Int.{ints}
+use Rattle.std.proofs.lemmas.List.{take_more, take-take, drop_all, length-take-le}
 use Rattle.std.proofs.lemmas.Bool.{cond-true, eq-eqb}
 use Rattle.store.specs.declared.Entry.{Entry}
-use Rattle.store.specs.Meaning.{Meaning, is_table, rank, holds, with_entry, without, updated, no_entry, ascending, put_after, take_after}
-use Rattle.store.proofs.Rows.{Above, Ascends, ascends_from, rank_more, holds_more, rank_here, holds_here}
-use Rattle.store.proofs.Calls.{put_done, take_done}
+use Rattle.store.specs.Meaning.{Meaning, is_table, rank, holds, with_entry, updated, no_entry, ascending, put_after}
+use Rattle.store.proofs.Rows.{Ascends, ascends_from, above_at, rank_more, holds_more}
+use Rattle.store.proofs.Calls.{put_done}
 
 -- ---- one table changed
 
@@ -20,11 +19,6 @@ pub updated_at : (m : Meaning) (t : ℕ) (r : List Entry) → (updated m t r).ta
 updated_at m t r = cond-true (eqb t t) _ _ (eq-eqb t t refl)
 
 -- ---- a row more
-
-above_at : (a : ℤ) (rows : List Entry) (i : ℕ) (d : Entry) → Above a rows → i < length rows → a <ℤ (get_or rows i d).key
-above_at a [] i d h l = absurd (omega arith)
-above_at a (r ∷ rs) zero d (p, q) l = p
-above_at a (r ∷ rs) (suc i) d (p, q) l = above_at a rs i d q (omega arith)
 
 -- the next row goes behind those before it
 next_place : (rows : List Entry) (i : ℕ) (d : Entry) → Ascends rows → i < length rows → (rank (get_or rows i d).key (take i rows) ≡ i) × (holds (get_or rows i d).key (take i rows) ≡ false)
@@ -56,27 +50,3 @@ copied_more m₀ m t i rows e it asc h fits is e-is =
     ap (put_after m t) e-is
     ∙ sym done.1 ∙ ap (λ r. updated m t (with_entry (get_or rows i no_entry) r)) at ∙ ap (updated m t) (next_inserted rows i no_entry a h)
     ∙ ap (λ x. updated x t (take (i + 1) rows)) is ∙ updated_twice m₀ t (take i rows) (take (i + 1) rows)
-
--- ---- the first row less
-
-le_same : (k : ℤ) → k ≤ℤ k
-le_same k = grind (arith, ints)
-
-first_out : (rows : List Entry) (i : ℕ) → i < length rows → (holds (get_or rows i no_entry).key (drop i rows) ≡ true) × (without (get_or rows i no_entry).key (drop i rows) ≡ drop (i + 1) rows)
-first_out rows i h =
-    let k = (get_or rows i no_entry).key in
-    let e = drop_more rows i no_entry h in
-    let at : rank (get_or rows i no_entry).key (drop i rows) ≡ 0 = ap (rank (get_or rows i no_entry).key) e ∙ rank_here (get_or rows i no_entry).key (get_or rows i no_entry) (drop (i + 1) rows) (le_same (get_or rows i no_entry).key) in (
-      ap (holds (get_or rows i no_entry).key) e ∙ holds_here (get_or rows i no_entry).key (get_or rows i no_entry) (drop (i + 1) rows) refl,
-      ap (λ p. take p (drop i rows) ++ drop (suc p) (drop i rows)) at ∙ ap (drop 1) e,
-    )
-
-pub cleared_more : (m₀ m : Meaning) (t i : ℕ) (k : ℤ) → is_table t ≡ true → i < length (m₀.tables t) → m ≡ updated m₀ t (drop i (m₀.tables t)) → k ≡ (get_or (m₀.tables t) i no_entry).key
-    → take_after m t k ≡ updated m₀ t (drop (i + 1) (m₀.tables t))
-cleared_more m₀ m t i k it h is k-is =
-    let f = first_out (m₀.tables t) i h in
-    let at : m.tables t ≡ drop i (m₀.tables t) = ap (λ x. x.tables t) is ∙ updated_at m₀ t (drop i (m₀.tables t)) in
-    let done = take_done m t it (get_or (m₀.tables t) i no_entry).key (ap (holds (get_or (m₀.tables t) i no_entry).key) at ∙ f.0) in
-    ap (take_after m t) k-is
-    ∙ sym done.1 ∙ ap (λ r. updated m t (without (get_or (m₀.tables t) i no_entry).key r)) at ∙ ap (updated m t) f.1
-    ∙ ap (λ x. updated x t (drop (i + 1) (m₀.tables t))) is ∙ updated_twice m₀ t (drop i (m₀.tables t)) (drop (i + 1) (m₀.tables t))

@@ -1,5 +1,6 @@
 -- What handing on the rows of a table answers and leaves.
-use Rattle.std.specs.Prelude.{◌≡◌, ℕ, cond, List, [], ◌∷◌, ◌++◌, length, drop, is_ok, Ok, Err, Result, nat_lt}
+use Rattle.std.specs.Prelude.{ℕ, cond, List, ◌++◌, length, drop, is_ok, Ok, Err, Result, nat_lt}
+use Rattle.std.specs.List.{FoldsTo}
 use Rattle.faults.specs.declared.Fault.{Fault}
 use Rattle.faults.specs.declared.Fault.TheVariants.{TooFew, NotThere}
 use Rattle.store.specs.declared.Entry.{Entry}
@@ -7,8 +8,7 @@ use Rattle.store.specs.Meaning.{Meaning, is_table, unless14}
 
 -- From state s to state t by taking the rows one after another, in order.
 abbrev pub Visited : {V : Type 0} → (V → Entry → V → Type 0) → V → List Entry → V → Type 0
-Visited takes s [] t = s ≡ t
-Visited {V} takes s (e ∷ es) t = (u : V) × takes s e u × Visited takes u es t
+Visited takes s rows t = FoldsTo takes s rows t
 
 -- Handing on the rows of a table is refused for no table alone.
 abbrev pub visit_answer : ℕ → Result Unit Fault

@@ -1,20 +1,12 @@
 //! Two stores compared.
-ghost use Rattle.std.specs.Prelude.{◌≡◌, true, Decides};
-ghost use Rattle.store.specs.Meaning.{Lawful, is_table};
+ghost use Rattle.std.specs.Prelude.{◌≡◌, Decides};
+ghost use Rattle.store.specs.Meaning.{Lawful};
 
 use super::reads::{entry_of, rows_of};
-use store::{Entry, Store, TABLES};
-
-/// Whether two rows with their keys are equal.
-fn same_entry(a: Entry, b: Entry) -> bool
-    ensures { Decides result (a ≡ b) }
-{
-    a.key == b.key && a.row == b.row
-}
+use store::{Store, TABLES};
 
 /// Whether table `table` has the same rows in two stores.
 fn same_table<A: Store, B: Store>(a: &A, b: &B, table: usize) -> bool
-    requires { is_table table ≡ true }
     ensures decides { Decides result ((A.meaning a.now).tables table ≡ (B.meaning b.now).tables table) }
     ensures first { Lawful (A.meaning a.now) }
     ensures second { Lawful (B.meaning b.now) }
@@ -23,8 +15,9 @@ fn same_table<A: Store, B: Store>(a: &A, b: &B, table: usize) -> bool
     if rows_of(b, table) != rows {
         return false;
     }
+    // A closure for `all` needs a `requires` of its own here, so the loop is plainer.
     for i in 0..rows {
-        if !same_entry(entry_of(a, table, i), entry_of(b, table, i)) {
+        if entry_of(a, table, i) != entry_of(b, table, i) {
             return false;
         }
     }

@@ -1,6 +1,6 @@
 //! The contents of a whole store changed.
-ghost use Rattle.std.specs.Prelude.{◌≡◌, true, []};
-ghost use Rattle.store.specs.Meaning.{Lawful, is_table, updated, empty_of};
+ghost use Rattle.std.specs.Prelude.{◌≡◌, []};
+ghost use Rattle.store.specs.Meaning.{Lawful, updated, empty_of};
 ghost use Rattle.store_tools.specs.Copies.{copy_store_answer, copy_store_after};
 
 use super::reads::{entry_of, rows_of};
@@ -9,14 +9,12 @@ use store::{Store, TABLES};
 
 /// Takes all rows out of table `table`.
 fn clear_table<S: Store>(store: &mut S, table: usize)
-    requires { is_table table ≡ true }
     ensures after { S.meaning store.new ≡ updated (S.meaning store.old) table [] }
     ensures lawful { Lawful (S.meaning store.old) }
 {
-    let rows = rows_of(store, table);
-    for i in 0..rows {
-        let entry = entry_of(store, table, 0);
-        let _ = store.take(table, entry.key);
+    for _ in 0..rows_of(store, table) {
+        let first = entry_of(store, table, 0);
+        let _ = store.take(table, first.key);
     }
 }
 
@@ -31,14 +29,12 @@ pub fn clear<S: Store>(store: &mut S)
 
 /// Puts all rows of table `table` of one store into that table, which is empty, of another.
 fn copy_table<A: Store, B: Store>(from: &A, to: &mut B, table: usize)
-    requires table { is_table table ≡ true }
     requires limit { (B.meaning to.old).limit ≡ (A.meaning from.now).limit }
     requires empty { (B.meaning to.old).tables table ≡ [] }
     ensures after { B.meaning to.new ≡ updated (B.meaning to.old) table ((A.meaning from.now).tables table) }
     ensures lawful { Lawful (A.meaning from.now) }
 {
-    let rows = rows_of(from, table);
-    for position in 0..rows {
+    for position in 0..rows_of(from, table) {
         let entry = entry_of(from, table, position);
         let _ = to.put(table, entry.key, entry.row);
     }

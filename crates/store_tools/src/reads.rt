@@ -7,16 +7,12 @@ use faults::Fault;
 use std::cmp::Ordering;
 use store::{Entry, Store};
 
-/// How many rows table `table`, which is one, has.
+/// How many rows table `table` has: none where the number is no table's.
 pub fn rows_of<S: Store>(store: &S, table: usize) -> usize
-    requires { is_table table ≡ true }
     ensures count { result ≡ length ((S.meaning store.now).tables table) }
     ensures lawful { Lawful (S.meaning store.now) }
 {
-    match store.count(table) {
-        Ok(n) => n,
-        Err(_) => unreachable(),
-    }
+    store.count(table).unwrap_or(0)
 }
 
 /// The key and the row at `position`, below the count, of table `table`.
@@ -36,6 +32,7 @@ pub fn position<S: Store>(store: &S, table: usize, key: i32) -> Result<Option<us
     ensures { result ≡ position_of (S.meaning store.now) table key }
 {
     let rows = store.count(table)?;
+    // `find` by an equal key would read on behind a greater one, to the end of the table.
     for i in 0..rows {
         let found = store.key_at(table, i)?;
         match found.cmp(&key) {
@@ -51,8 +48,5 @@ pub fn position<S: Store>(store: &S, table: usize, key: i32) -> Result<Option<us
 pub fn has_key<S: Store>(store: &S, table: usize, key: i32) -> Result<bool, Fault>
     ensures { result ≡ has_key (S.meaning store.now) table key }
 {
-    match position(store, table, key)? {
-        Some(_) => Ok(true),
-        None => Ok(false),
-    }
+    Ok(position(store, table, key)?.is_some())
 }

@@ -9,6 +9,7 @@ use faults::Fault;
 use store::{Entry, Store};
 
 /// What takes rows one after another; `takes` says which state follows which when it takes a row.
+// With a closure in its place, what it leaves in a variable that it borrows is told to the caller only in names that may change.
 pub trait Visitor {
     ghost takes: { Self → Entry → Self → Type 0 };
 
@@ -28,22 +29,9 @@ pub fn visit_rows<S: Store, V: Visitor>(
 {
     let rows = store.count(table)?;
     for position in 0..rows {
-        let entry = entry_of(store, table, position);
-        visitor.visit(entry);
+        visitor.visit(entry_of(store, table, position));
     }
     Ok(())
-}
-
-/// Copies the first `rows` rows of table `table` to the front of `out`.
-fn fill<S: Store>(store: &S, table: usize, rows: usize, out: &mut [Entry])
-    requires table { is_table table ≡ true }
-    requires rows { rows ≤ length ((S.meaning store.now).tables table) }
-    requires room { rows ≤ length out.old }
-    ensures { out.new ≡ take rows ((S.meaning store.now).tables table) ++ drop rows out.old }
-{
-    for i in 0..rows {
-        out[i] = entry_of(store, table, i);
-    }
 }
 
 /// Copies all rows of table `table` to the front of `out`, in key order, and tells their count.
@@ -56,6 +44,8 @@ pub fn copy_rows<S: Store>(store: &S, table: usize, out: &mut [Entry]) -> Result
     if out.len() < rows {
         return Err(Fault::TooFew { needed: rows });
     }
-    fill(store, table, rows, out);
+    for (position, place) in out[..rows].iter_mut().enumerate() {
+        *place = entry_of(store, table, position);
+    }
     Ok(rows)
 }

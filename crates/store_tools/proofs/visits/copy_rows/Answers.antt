@@ -1,20 +1,19 @@
-use Rattle.std.proofs.Common.{◌≡◌, cond, ◌++◌, length, drop, is_ok, Ok, sym, ap, ◌∙◌, arith}
-use Rattle.std.proofs.lemmas.List.{take_all}
-use Rattle.std.proofs.lemmas.Bool.{cond-true, cond-false, le-ltb}
+use Rattle.std.proofs.Common.{◌≡◌, ◌+◌, ◌<◌, List, ◌++◌, length, get_or, take, drop, set, ap, ◌∙◌, arith, rules}
+use Rattle.std.proofs.lemmas.List.{places, same_lists, get_or-set_same, length-take-le}
+use Rattle.std.proofs.lemmas.Bool.{cases_eq}
+use Rattle.store.specs.Meaning.{no_entry}
 use Rattle.store.proofs.Calls.{count_from}
-use Rattle.store_tools.specs.Visits.{copy_answer}
 use Rattle.store_tools.proofs.visits.copy_rows.Goals as goal
 
-pub returns : goal.returns
-returns g c =
-    let m = g.S.Store.meaning c.args.store.now in
-    let n = count_from m c.args.table c.in_ok-rows.rows c.in_ok-rows.ensures.answer in
-    let answer : Ok c.in_ok-rows.rows ≡ copy_answer (g.S.Store.meaning c.args.store.now) c.args.table (length c.args.out.now) =
-    ap Ok n.1 ∙ sym (cond-true _ _ _ n.0 ∙ cond-false _ _ _ (le-ltb (length c.args.out.now) (length ((g.S.Store.meaning c.args.store.now).tables c.args.table)) (omega (arith, n.1)))) in
-    record {
-      answer = answer;
-      after = c.fill.ensures
-          ∙ ap (λ t. t ++ drop c.in_ok-rows.rows c.args.out.now) (take_all c.in_ok-rows.rows (m.tables c.args.table) (omega (arith, n.1)))
-          ∙ ap (λ k. (g.S.Store.meaning c.args.store.now).tables c.args.table ++ drop k c.args.out.now) n.1
-          ∙ ap (λ a. cond (is_ok a) ((g.S.Store.meaning c.args.store.now).tables c.args.table ++ drop (length ((g.S.Store.meaning c.args.store.now).tables c.args.table)) c.args.out.now) c.args.out.now) answer;
-    }
+-- one row more in front
+front_more : {X : Type 0} (rows out : List X) (i : _) (d : X) → i < length rows → i < length out → set (take i rows ++ drop i out) i (get_or rows i d) ≡ take (i + 1) rows ++ drop (i + 1) out
+front_more rows out i d h l = same_lists _ _ (search (rules, places)) (λ k e q. grind (arith, places, get_or-set_same, cases_eq k i))
+
+pub loop-position-preserved : goal.loop-position-preserved
+loop-position-preserved g c =
+    let rows = (g.S.Store.meaning c.args.store.now).tables c.args.table in
+    let n = count_from (g.S.Store.meaning c.args.store.now) c.args.table c.in_ok-rows.rows c.in_ok-rows.ensures.answer in
+    let room = length-take-le c.in_ok-rows.rows c.args.out.now (omega arith) in
+    ap (λ o. set o c.loop-position.position c.entry_of.result) c.loop-position.invariant
+    ∙ ap (set (take c.loop-position.position rows ++ drop c.loop-position.position (take c.in_ok-rows.rows c.args.out.now)) c.loop-position.position) c.entry_of.ensures
+    ∙ front_more rows (take c.in_ok-rows.rows c.args.out.now) c.loop-position.position no_entry (omega (arith, n.1)) (omega arith)

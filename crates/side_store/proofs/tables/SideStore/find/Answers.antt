@@ -1,13 +1,14 @@
-use Rattle.std.proofs.Common.{◌≡◌, ◌+◌, ◌-◌, get_or, take, drop, ap, ◌∙◌, arith, w32}
+use Rattle.std.proofs.Common.{slice_range, ap, ◌∙◌, w32, to_z, of_z, rules}
 use Rattle.std.proofs.lemmas.Int.{to_z-of_z}
+use Rattle.std.proofs.lemmas.List.Sorted.{answers_always}
 use Rattle.store.specs.Meaning.{sought}
+use Rattle.side_store.proofs.Seeking.{sought_by}
 use Rattle.side_store.proofs.tables.SideStore.find.Goals as goal
 
+-- the closure tells a row's key
 pub returns : goal.returns
 returns c =
-    let n = get_or c.args.self.now.raw.counts (c.args.table - 1) 0 in
-    let e : c.base-base.result + n - c.base-base.result ≡ n = omega arith in
-    c.seek.ensures
-    ∙ ap (λ k. sought k (take (c.base-base.result + n - c.base-base.result) (drop c.base-base.result c.args.self.now.raw.slots.now))) (to_z-of_z w32 c.args.key c.ranges.key)
-    ∙ ap (λ x. sought c.args.key (take x (drop c.base-base.result c.args.self.now.raw.slots.now))) e
-    ∙ ap (λ b. sought c.args.key (take n (drop b c.args.self.now.raw.slots.now))) c.base-base.ensures.value
+    let facts = c.binary_search_by_key.ensures in
+    let by_key = facts.position (λ e. e.key) (answers_always _ _ _ (λ f a r g called. search rules)) in
+    sought_by (to_z w32 (of_z w32 c.args.key)) _ _ c.requires.ascends facts.bound by_key
+    ∙ ap (λ k. sought k (slice_range c.args.self.now.slots.now c.args.places.now.start c.args.places.now.end)) (to_z-of_z w32 c.args.key c.ranges.key)

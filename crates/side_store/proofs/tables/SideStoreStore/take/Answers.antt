@@ -1,56 +1,38 @@
-use Rattle.std.proofs.Common.{◌-◌, refl, ap, ◌∙◌, arith, rules}
-use Rattle.store.proofs.Rows.{rank_lt}
-use Rattle.store.proofs.Calls.{limit_from}
-use Rattle.store.proofs.Keeping.{absent}
-use Rattle.side_store.specs.Parts.{part, meant}
-use Rattle.side_store.proofs.Rooms.{held, counted, length_part, take_here, missed, found}
+use Rattle.std.proofs.Common.{◌-◌, arith, rules}
+use Rattle.store.proofs.Calls.{table_from, limit_from}
+use Rattle.side_store.proofs.Rooms.{found, take_done}
 use Rattle.side_store.proofs.tables.SideStoreStore.take.Goals as goal
 
-pub returns-in-Err : goal.returns-in-Err
-returns-in-Err c =
-    let f = missed c.args.key (part c.args.self.now.limit c.args.self.now.raw.counts c.args.self.now.raw.slots.now (c.args.table - 1)) c.in-Err.field-0 c.ranges.key c.in-Err.ensures in
-    let p = absent c.args.self.now.limit (λ t. part c.args.self.now.limit c.args.self.now.raw.counts c.args.self.now.raw.slots.now (t - 1)) c.args.table (omega arith) (omega arith) c.args.key f.0 in
-    record { answer = p.0; after = p.1 }
+pub close-requires-clause-order : goal.close-requires-clause-order
+close-requires-clause-order c =
+    let m = found c.args.self.now c.args.table c.in_ok-places.places c.in_ok-places.ensures.here c.args.key c.in-Ok.at c.ranges.key c.in-Ok.ensures in
+    omega (arith, m.0, c.in_ok-places.ensures.here.2)
 
-pub bounds-self-base : goal.bounds-self-base
-bounds-self-base c =
-    let len = length_part _ _ _ (held c.args.self.now) (c.args.table - 1) (omega arith) in
-    let f = found c.args.key (part c.args.self.now.limit c.args.self.now.raw.counts c.args.self.now.raw.slots.now (c.args.table - 1)) c.in-Ok.at c.ranges.key c.in-Ok.ensures in
-    let l = rank_lt c.args.key (part c.args.self.now.limit c.args.self.now.raw.counts c.args.self.now.raw.slots.now (c.args.table - 1)) f.0 in
-    omega (arith, f.1, c.base-base.ensures.bound, c.args.self.now.within (c.args.table - 1) (omega arith))
+pub overflow_add-places : goal.overflow_add-places
+overflow_add-places c = let lt = close-requires-clause-order c in search rules
+
+pub bounds-self-places : goal.bounds-self-places
+bounds-self-places c =
+    let m = found c.args.self.now c.args.table c.in_ok-places.places c.in_ok-places.ensures.here c.args.key c.in-Ok.at c.ranges.key c.in-Ok.ensures in
+    let h = table_from c.args.table c.in_ok-places.ensures.here.0 in
+    omega (arith, m.0, c.in_ok-places.ensures.here.3, c.args.self.now.within (c.args.table - 1) (omega arith))
 
 pub overflow_add-entry : goal.overflow_add-entry
-overflow_add-entry c =
-    let i = bounds-self-base c in
+overflow_add-entry c = let i = bounds-self-places c in search rules
+
+pub offset_bounds-self-places : goal.offset_bounds-self-places
+offset_bounds-self-places c =
+    let i = bounds-self-places c in
     let m = limit_from c.args.self.now.limit c.args.self.now.limited in
     let s = c.args.self.now.size in
     search rules
-
-pub remove-requires : goal.remove-requires
-remove-requires c =
-    let len = length_part _ _ _ (held c.args.self.now) (c.args.table - 1) (omega arith) in
-    let f = found c.args.key (part c.args.self.now.limit c.args.self.now.raw.counts c.args.self.now.raw.slots.now (c.args.table - 1)) c.in-Ok.at c.ranges.key c.in-Ok.ensures in
-    let l = rank_lt c.args.key (part c.args.self.now.limit c.args.self.now.raw.counts c.args.self.now.raw.slots.now (c.args.table - 1)) f.0 in
-    record { table = omega arith; width = c.args.self.now.width; order = omega (arith, f.1); room = omega (arith, c.base-base.ensures.bound, c.args.self.now.within (c.args.table - 1) (omega arith)) }
-
-pub returns-in-Ok : goal.returns-in-Ok
-returns-in-Ok c =
-    let f = found c.args.key (part c.args.self.now.limit c.args.self.now.raw.counts c.args.self.now.raw.slots.now (c.args.table - 1)) c.in-Ok.at c.ranges.key c.in-Ok.ensures in
-    let p = take_here _ _ _ (held c.args.self.now) c.args.table (omega arith) (omega arith)
-    c.args.key _ c.remove.new.self.slots.now c.base-base.result c.in-Ok.at c.base-base.ensures.value f refl c.remove.ensures.slots in
-    record { answer = p.0; after = ap (λ n. meant c.args.self.now.limit n c.remove.new.self.slots.now) c.remove.ensures.counts ∙ p.1 }
 
 pub invariant_of-self : goal.invariant_of-self
 invariant_of-self c =
-    let f = found c.args.key (part c.args.self.now.limit c.args.self.now.raw.counts c.args.self.now.raw.slots.now (c.args.table - 1)) c.in-Ok.at c.ranges.key c.in-Ok.ensures in
-    let p = take_here _ _ _ (held c.args.self.now) c.args.table (omega arith) (omega arith)
-    c.args.key _ c.remove.new.self.slots.now c.base-base.result c.in-Ok.at c.base-base.ensures.value f refl c.remove.ensures.slots in
-    let h = counted c.args.self.now.limit _ _ _ c.remove.ensures.counts p.2 in
+    let h = (take_done c.args.self.now c.args.table c.in_ok-places.places c.in_ok-places.ensures.here c.args.key c.in-Ok.at c.close.new.items c.ranges.key c.in-Ok.ensures c.close.ensures).2 in
     record { limited = h.limited; size = h.size; width = h.width; within = h.within; ascends = h.ascends }
 
-pub offset_bounds-self-base : goal.offset_bounds-self-base
-offset_bounds-self-base c =
-    let i = bounds-self-base c in
-    let m = limit_from c.args.self.now.limit c.args.self.now.limited in
-    let s = c.args.self.now.size in
-    search rules
+pub returns-in-Ok : goal.returns-in-Ok
+returns-in-Ok c =
+    let p = take_done c.args.self.now c.args.table c.in_ok-places.places c.in_ok-places.ensures.here c.args.key c.in-Ok.at c.close.new.items c.ranges.key c.in-Ok.ensures c.close.ensures in
+    record { answer = p.0; after = p.1 }
