@@ -1,5 +1,5 @@
 -- The steps of the loops over words and chains.
-use Rattle.std.proofs.Common.{◌≡◌, ℕ, zero, suc, ◌+◌, ◌-◌, ◌*◌, ◌<◌, ◌≤◌, Bool, true, false, cond, eqb, ltb, leb, ◌⊎◌, List, [], ◌∷◌, ◌++◌, map, length, get_or, set, Some, None, Ok, Err, Result, sym, refl, ap, ◌∙◌, subst, inl, inr, add-one, arith}
+use Rattle.std.proofs.Common.{◌≡◌, ℕ, zero, suc, ◌+◌, ◌-◌, ◌*◌, ◌^◌, ◌<◌, ◌≤◌, Bool, true, false, cond, eqb, ltb, leb, ◌⊎◌, List, [], ◌∷◌, ◌++◌, map, length, get_or, set, slice_get, Some, None, IfSome, Ok, Err, Option, Result, sym, refl, ap, ◌∙◌, subst, inl, inr, add-one, arith}
 use Rattle.std.specs.Option.{option_map}
 use Rattle.std.proofs.lemmas.List.{length-map}
 use Rattle.std.proofs.lemmas.Bool.{cond-true, cond-false, cases_Bool, lt-ltb, le-leb, lt-leb, ltb-true, leb-true, and_from, and_left, and_right, and_parts}
@@ -41,16 +41,72 @@ pub no_index : (n i : ℕ) → (i ≡ 0) ⊎ ((i ≡ 0 → ⊥) × (n < i)) → 
 no_index n i (inl e) = and_left _ _ (subst (λ k. ltb 0 k ≡ false) (sym e) refl)
 no_index n i (inr h) = and_right _ _ (lt-leb i n h.1)
 
--- A trail ends at a word that is no index.
-pub trail_end : (b : List ℕ) (n most w : ℕ) → is_index n (pointer b w) ≡ false → trail b n most w ≡ []
-trail_end b n zero w e = refl
-trail_end b n (suc most) w e = cond-false _ _ _ e
+-- A trail from a word of the file.
+pub record IsTrail (b : List ℕ) (n : ℕ) (hs : List (ℕ × ℕ)) : Type 0 where
+  pub most : ℕ
+  pub word : ℕ
+  pub near : word < 10000
+  pub is : hs ≡ trail b n most word
 
-pub trail_more : (b : List ℕ) (n most w : ℕ) → 0 < most → is_index n (pointer b w) ≡ true → trail b n most w ≡ (w, pointer b w) ∷ trail b n (most - 1) (record_word (pointer b w))
-trail_more b n zero w h e = absurd (omega arith)
-trail_more b n (suc most) w h e = cond-true _ _ _ e ∙ ap (λ k. (w, pointer b w) ∷ trail b n k (record_word (pointer b w))) back where
-  back : most ≡ suc most - 1
-  back = omega arith
+heads_same : {A : Type 0} (x y : A) (xs ys : List A) → x ∷ xs ≡ y ∷ ys → (x ≡ y) × (xs ≡ ys)
+heads_same x y xs ys e = (cc, cc)
+
+nil_some : {A : Type 0} (x : A) (xs : List A) → [] ≡ x ∷ xs → ⊥
+nil_some x xs e = let z : ◌≡◌ {A = ℕ} 0 1 = cc in omega arith
+
+-- The first link of a trail points from its word to a record, and the others go on from there.
+pub trail_step : (b : List ℕ) (n : ℕ) (h : ℕ × ℕ) (hs : List (ℕ × ℕ)) → n ≤ 1024 → IsTrail b n (h ∷ hs) → (h.0 < 10000) × (h.1 ≤ n) × IsTrail b n hs
+trail_step b n h hs few t = step t.most t.is where
+  step : (most : ℕ) → h ∷ hs ≡ trail b n most t.word → (h.0 < 10000) × (h.1 ≤ n) × IsTrail b n hs
+  step zero e = absurd (nil_some h hs (sym e))
+  step (suc most) e =
+      elim (cases_Bool (is_index n (pointer b t.word))) [
+        | inl i ↦
+            let same = heads_same h (t.word, pointer b t.word) hs (trail b n most (record_word (pointer b t.word))) (e ∙ cond-true _ _ _ i) in
+            let high : pointer b t.word ≤ n = leb-true (pointer b t.word) n (and_parts _ _ i).1 in
+            let near = t.near in
+            let word : h.0 ≡ t.word = ap (λ (x : ℕ × ℕ). x.0) same.0 in
+            let index : h.1 ≡ pointer b t.word = ap (λ (x : ℕ × ℕ). x.1) same.0 in
+            (omega arith, omega arith, record { most = most; word = record_word (pointer b t.word); near = omega arith; is = same.1 })
+        | inr f ↦ absurd (nil_some h hs (sym (e ∙ cond-false _ _ _ f)))
+      ]
+
+-- The records along a trail are the chain.
+chain_of_trail : (b : List ℕ) (n most w : ℕ) → map (λ (h : ℕ × ℕ). h.1) (trail b n most w) ≡ chain b n most (pointer b w)
+chain_of_trail b n zero w = refl
+chain_of_trail b n (suc most) w =
+    elim (cases_Bool (is_index n (pointer b w))) [
+      | inl t ↦ ap (map (λ (h : ℕ × ℕ). h.1)) (cond-true _ _ _ t) ∙ ap (λ l. pointer b w ∷ l) (chain_of_trail b n most (record_word (pointer b w))) ∙ sym (cond-true _ _ _ t)
+      | inr f ↦ ap (map (λ (h : ℕ × ℕ). h.1)) (cond-false _ _ _ f) ∙ sym (cond-false _ _ _ f)
+    ]
+
+pub trail_length : (b : List ℕ) (n most w : ℕ) → length (trail b n most w) ≡ length (chain b n most (pointer b w))
+trail_length b n most w = sym (length-map (trail b n most w) (λ (h : ℕ × ℕ). h.1)) ∙ ap length (chain_of_trail b n most w)
+
+pub trail_short : (b : List ℕ) (n most w : ℕ) → length (trail b n most w) ≤ most
+trail_short b n zero w = omega arith
+trail_short b n (suc most) w =
+    elim (cases_Bool (is_index n (pointer b w))) [
+      | inl t ↦ rw (cond-true (is_index n (pointer b w)) ((w, pointer b w) ∷ trail b n most (record_word (pointer b w))) [] t) (omega (arith, trail_short b n most (record_word (pointer b w))))
+      | inr f ↦ rw (cond-false (is_index n (pointer b w)) ((w, pointer b w) ∷ trail b n most (record_word (pointer b w))) [] f) (omega arith)
+    ]
+
+pub item_map : {A B : Type 0} (f : A → B) (xs : List A) (k : ℕ) → item (map f xs) k ≡ option_map f (item xs k)
+item_map f [] k = refl
+item_map f (x ∷ xs) zero = refl
+item_map f (x ∷ xs) (suc k) = item_map f xs k
+
+item_get : {A : Type 0} (xs : List A) (k : ℕ) → slice_get xs k ≡ item xs k
+item_get [] k = refl
+item_get (x ∷ xs) zero = refl
+item_get (x ∷ xs) (suc k) = item_get xs k
+
+pub trail_item : (b : List ℕ) (n most w k : ℕ) (r : Option (ℕ × ℕ)) → option_map (λ h. h) r ≡ slice_get (trail b n most w) k → option_map (λ h. h.1) r ≡ item (chain b n most (pointer b w)) k
+trail_item b n most w k r e =
+    ap (option_map (λ (h : ℕ × ℕ). h.1)) (same r ∙ e ∙ item_get (trail b n most w) k) ∙ sym (item_map (λ (h : ℕ × ℕ). h.1) (trail b n most w) k) ∙ ap (λ l. item l k) (chain_of_trail b n most w) where
+      same : (r : Option (ℕ × ℕ)) → r ≡ option_map (λ h. h) r
+      same None = refl
+      same (Some h) = refl
 
 pub met_here : (noted : List Bool) (w i : ℕ) (hs : List (ℕ × ℕ)) → get_or noted i false ≡ true → met noted ((w, i) ∷ hs) ≡ Err (BadCase (4 * w))
 met_here noted w i hs e = cond-true _ _ _ e
@@ -139,10 +195,9 @@ chain_index b n (suc most) i k j e =
       first zero p t more = let lo = ltb-true 0 i t.0 in let hi = leb-true i n t.1 in let same = some_same i j p in (omega arith, omega arith)
       first (suc k) p t more = more k p
 
-pub item_map : {A B : Type 0} (f : A → B) (xs : List A) (k : ℕ) → item (map f xs) k ≡ option_map f (item xs k)
-item_map f [] k = refl
-item_map f (x ∷ xs) zero = refl
-item_map f (x ∷ xs) (suc k) = item_map f xs k
+pub item_index : (b : List ℕ) (n w k : ℕ) (r : Option ℕ) → n ≤ 1024 → r ≡ item (chain_from b n w) k → IfSome r (λ i. (0 < i) × (i < 2 ^ 31))
+item_index b n w k None few e = tt
+item_index b n w k (Some i) few e = let index = chain_index b n n (pointer b w) k i (sym e) in (index.0, omega arith)
 
 -- ---- rows and lists
 
@@ -211,13 +266,12 @@ row_none b widths n t k e h = ap (λ o. option_map (cut 8) (option_map (row_of b
 pub row_some : (b widths : List ℕ) (n t k i : ℕ) → is_table (length widths) t ≡ true → Some i ≡ item (chain_from b n t) k → Some (cut 8 (row_of b (get_or widths (t - 1) 0) i)) ≡ option_map (cut 8) (item (rows_of b widths n t) k)
 row_some b widths n t k i e h = ap (λ o. option_map (cut 8) (option_map (row_of b (get_or widths (t - 1) 0)) o)) h ∙ sym (ap (option_map (cut 8)) (rows_at b widths n t k e))
 
-pub list_none : (b : List ℕ) (n count list k : ℕ) → (list ≡ 0) ⊎ ((list ≡ 0 → ⊥) × (count < list)) → None ≡ list_item (lists_from b n 11 count) list k
+pub list_none : (b : List ℕ) (n count list k : ℕ) → (0 < list → list ≤ count → ⊥) → None ≡ list_item (lists_from b n 11 count) list k
 list_none b n count zero k h = refl
-list_none b n count (suc j) k (inl e) = absurd (omega arith)
-list_none b n count (suc j) k (inr h) = let past = h.1 in sym (ap (λ o. in_list o k) (list_past b n 11 count j (omega arith)))
+list_none b n count (suc j) k h = let past = h (omega arith) in sym (ap (λ o. in_list o k) (list_past b n 11 count j (omega arith)))
 
-pub list_some : (b : List ℕ) (n count list k : ℕ) → (list ≡ 0 → ⊥) → list ≤ count → item (numbers_from b n (10 + list)) k ≡ list_item (lists_from b n 11 count) list k
-list_some b n count zero k some le = absurd (some refl)
+pub list_some : (b : List ℕ) (n count list k : ℕ) → 0 < list → list ≤ count → item (numbers_from b n (10 + list)) k ≡ list_item (lists_from b n 11 count) list k
+list_some b n count zero k some le = absurd (omega arith)
 list_some b n count (suc j) k some le = ap (λ w. item (numbers_from b n w) k) over ∙ sym (ap (λ o. in_list o k) (list_at b n 11 count j (omega arith))) where
   over : 10 + suc j ≡ 11 + j
   over = omega arith
