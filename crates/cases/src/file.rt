@@ -23,8 +23,7 @@ impl<'a> File<'a> {
     {
         match usize::try_from(word_at(bytes, 0)) {
             Ok(records)
-                if records <= MOST_RECORDS && bytes.len() == 4 * (HEAD + RECORD * records) =>
-            {
+                if records <= MOST_RECORDS && bytes.len() == 4 * (HEAD + RECORD * records) => {
                 Ok(File { bytes, records })
             }
             _ => Err(Fault::BadCase { place: 0 }),

@@ -35,7 +35,11 @@ fn row_of(bytes: &[u8], index: usize, width: usize) -> [i32; 8]
     ensures { result ≡ cut 8 (values bytes.now (19 + 9 * (index - 1) + 1) (min width 8)) }
 {
     let first = record_at(index) + 1;
-    array::from_fn(|k| if k < width { word_at(bytes, first + k) } else { 0 })
+    array::from_fn(|k| if k < width {
+        word_at(bytes, first + k)
+    } else {
+        0
+    })
 }
 
 impl<'a> Case<'a> {

@@ -1,5 +1,5 @@
-use Rattle.std.proofs.Common.{◌≡◌, ◌<◌}
-use Rattle.cases.specs.Chains.{trail_from, trail, met}
+use Rattle.std.proofs.Common.{◌≡◌}
+use Rattle.cases.specs.Chains.{trail_from, met}
 use Rattle.cases.specs.Trails.{trail_left}
 use Rattle.cases.proofs.Walks.{IsTrail}
 use Rattle.cases.proofs.file.File.follow.Given as goal
