@@ -4,7 +4,7 @@ ghost use Rattle.std.specs.Range.{range_inclusive_start, range_inclusive_end, ra
 ghost use Rattle.cases.specs.Ranges.{range_of, fits, out_of_range};
 
 use super::file::File;
-use super::words::{HEAD, LISTS, READS, RECORD, index_at, word_at};
+use super::words::{HEAD, LISTS, MOST_LISTS, READS, RECORD, index_at, word_at};
 use faults::Fault;
 use std::ops::RangeInclusive;
 
@@ -16,7 +16,7 @@ fn range_of(tables: usize, records: i32, lists: usize, at: usize) -> RangeInclus
     match at {
         0..READS => 0..=(if at <= tables { records } else { 0 }),
         READS => 0..=records,
-        LISTS => 0..=8,
+        LISTS => 0..=MOST_LISTS,
         11..HEAD => 0..=(if at - LISTS <= lists { records } else { 0 }),
         _ if (at - HEAD) % RECORD == 0 => 0..=records,
         _ => -1_000_000_000..=1_000_000_000,

@@ -7,7 +7,7 @@ ghost use Rattle.cases.specs.Meaning.{values, is_table, numbers_from, case_verdi
 ghost use Rattle.cases.specs.View.{shown, case_read};
 
 use super::file::File;
-use super::words::{LISTS, READS, index_at, record_at, word_at};
+use super::words::{LISTS, MOST_TABLES, READS, index_at, record_at, word_at};
 use faults::Fault;
 use std::array;
 
@@ -100,7 +100,7 @@ impl<'a> Case<'a> {
     fn is_table(&self, table: usize) -> bool
         ensures { result ≡ is_table (length self.now.widths.now) table }
     {
-        (1..=self.widths.len().min(8)).contains(&table)
+        (1..=self.widths.len().min(MOST_TABLES)).contains(&table)
     }
 
     /// The first value at a position of the chain whose head is a word.

@@ -17,6 +17,12 @@ pub(crate) const READS: usize = 9;
 /// The word that is the count of lists.
 pub(crate) const LISTS: usize = 10;
 
+/// The most tables; their heads stand before that of the reads.
+pub(crate) const MOST_TABLES: usize = 8;
+
+/// The most lists; their heads stand behind their count.
+pub(crate) const MOST_LISTS: i32 = 8;
+
 /// The largest count of records.
 pub(crate) const MOST_RECORDS: usize = 1_024;
 

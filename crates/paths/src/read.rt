@@ -54,6 +54,7 @@ fn read_line(heap: Global, line: &[u8]) -> Result<Vec<Mark>, Fault>
     ensures { LineAnswers line.now (marks_read result) }
 {
     let mut marks = Vec::new(heap);
+    // No split at spaces: the parts do not tell their places, which a refusal needs.
     let mut at = 0;
     while marks.len() < MOST_MARKS {
         let (mark, end) = read_mark(line, at)?;

@@ -1,4 +1,4 @@
-use Rattle.std.proofs.Common.{length, Ok, Err, sym, ap, ◌∙◌}
+use Rattle.std.proofs.Common.{◌≡◌, rules, length, Ok, Err, sym, ap, ◌∙◌}
 use Rattle.std.proofs.lemmas.Result.{err_from_is_err_and}
 use Rattle.cases.specs.Chains.{met_again}
 use Rattle.cases.specs.Ranges.{out_of_range}
@@ -32,5 +32,5 @@ returns-clause-verdict c =
     let tables = length c.args.widths.now in
     let n = c.in_ok-file.file.records in
     let words = ap (λ b. out_of_range b tables n) (sym c.in_ok-file.ensures.same) ∙ sym c.in_ok-check_words.ensures in
-    let chains = ap (λ b. met_again b n) (sym c.in_ok-file.ensures.same) ∙ sym c.in_ok-check_chains.ensures in
-    sym (verdict_chains tables c.args.bytes.now n (Ok _) c.in_ok-file.ensures.value words chains)
+    let passed : met_again c.in_ok-file.file.bytes.now n ≡ Ok tt = search rules in
+    sym (verdict_chains tables c.args.bytes.now n (Ok tt) c.in_ok-file.ensures.value words (ap (λ b. met_again b n) (sym c.in_ok-file.ensures.same) ∙ passed))
