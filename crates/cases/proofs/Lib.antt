@@ -1,1 +1,3 @@
+mod Fours
+mod Rows
 mod Walks

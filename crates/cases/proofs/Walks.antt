@@ -1,21 +1,16 @@
 -- The steps of the loops over words and chains.
-use Rattle.std.proofs.Common.{◌≡◌, ℕ, zero, suc, ◌+◌, ◌-◌, ◌*◌, ◌<◌, ◌≤◌, Bool, true, false, cond, eqb, ltb, leb, ◌⊎◌, List, [], ◌∷◌, ◌++◌, map, length, get_or, set, Some, None, Ok, Err, Result, sym, refl, ap, ◌∙◌, subst, inl, inr, add-one, arith}
+use Rattle.std.proofs.Common.{◌≡◌, ℕ, zero, suc, ◌+◌, ◌-◌, ◌*◌, ◌^◌, ◌<◌, ◌≤◌, Bool, true, false, cond, eqb, ltb, leb, List, [], ◌∷◌, ◌++◌, map, length, get_or, set, slice_get, Some, None, IfSome, Ok, Err, Option, Result, sym, refl, ap, ◌∙◌, inl, inr, add-one, arith}
 use Rattle.std.specs.Option.{option_map}
 use Rattle.std.proofs.lemmas.List.{length-map}
-use Rattle.std.proofs.lemmas.Bool.{cond-true, cond-false, cases_Bool, lt-ltb, le-leb, lt-leb, ltb-true, leb-true, and_from, and_left, and_right, and_parts}
+use Rattle.std.proofs.lemmas.Bool.{cond-true, cond-false, cases_Bool, ltb-true, leb-true, and_parts}
 use Rattle.faults.specs.declared.Fault.{Fault}
 use Rattle.faults.specs.declared.Fault.TheVariants.{BadCase}
-use Rattle.meaning.specs.Evaluation.{cut}
-use Rattle.cases.specs.Words.{word, record_word}
+use Rattle.cases.specs.Words.{record_word}
 use Rattle.cases.specs.Ranges.{first_out, size_of, out_of_range}
 use Rattle.cases.specs.Chains.{pointer, is_index, chain, trail, trail_from, trails, met, met_again, item, chain_from}
-use Rattle.cases.specs.Meaning.{◌then◌, case_verdict, values, row_of, is_table, rows_of, first_value, numbers_from, lists_from, in_list, list_item}
+use Rattle.cases.specs.Meaning.{◌then◌, case_verdict, numbers_from, lists_from, in_list, list_item}
 
 -- ---- words
-
-suc_count : (n : ℕ) → 0 < n → n ≡ suc (n - 1)
-suc_count zero h = absurd (omega arith)
-suc_count (suc n) h = omega arith
 
 -- One word is passed.
 pub out_more : (ok : ℕ → Bool) (w count : ℕ) → 0 < count → ok w ≡ true → first_out ok w count ≡ first_out ok (w + 1) (count - 1)
@@ -34,53 +29,85 @@ out_none ok w count e = ap (first_out ok w) e
 
 -- ---- chains
 
-pub is_index_lem : (n i : ℕ) → 0 < i → i ≤ n → is_index n i ≡ true
-is_index_lem n i a b = and_from _ _ (lt-ltb 0 i a) (le-leb i n b)
+-- A trail from a word of the file.
+pub record IsTrail (b : List ℕ) (n : ℕ) (hs : List (ℕ × ℕ)) : Type 0 where
+  pub most : ℕ
+  pub word : ℕ
+  pub near : word < 10000
+  pub is : hs ≡ trail b n most word
 
-pub no_index : (n i : ℕ) → (i ≡ 0) ⊎ ((i ≡ 0 → ⊥) × (n < i)) → is_index n i ≡ false
-no_index n i (inl e) = and_left _ _ (subst (λ k. ltb 0 k ≡ false) (sym e) refl)
-no_index n i (inr h) = and_right _ _ (lt-leb i n h.1)
+-- The first link of a trail points from its word to a record, and the others go on from there.
+pub trail_step : (b : List ℕ) (n : ℕ) (h : ℕ × ℕ) (hs : List (ℕ × ℕ)) → n ≤ 1024 → IsTrail b n (h ∷ hs) → (h.0 < 10000) × (h.1 ≤ n) × IsTrail b n hs
+trail_step b n h hs few t = step t.most t.is where
+  step : (most : ℕ) → h ∷ hs ≡ trail b n most t.word → (h.0 < 10000) × (h.1 ≤ n) × IsTrail b n hs
+  step zero e = cc
+  step (suc most) e =
+      elim (cases_Bool (is_index n (pointer b t.word))) [
+        | inl i ↦
+            let here : h ∷ hs ≡ (t.word, pointer b t.word) ∷ trail b n most (record_word (pointer b t.word)) = e ∙ cond-true _ _ _ i in
+            let first : h ≡ (t.word, pointer b t.word) = cc in
+            let high : pointer b t.word ≤ n = leb-true (pointer b t.word) n (and_parts (ltb 0 (pointer b t.word)) (leb (pointer b t.word) n) i).1 in
+            let near = t.near in
+            let word : h.0 ≡ t.word = ap (λ (x : ℕ × ℕ). x.0) first in
+            let index : h.1 ≡ pointer b t.word = ap (λ (x : ℕ × ℕ). x.1) first in
+            (omega arith, omega arith, record { most = most; word = record_word (pointer b t.word); near = omega arith; is = cc })
+        | inr f ↦ let none : h ∷ hs ≡ [] = e ∙ cond-false _ _ _ f in cc
+      ]
 
--- A trail ends at a word that is no index.
-pub trail_end : (b : List ℕ) (n most w : ℕ) → is_index n (pointer b w) ≡ false → trail b n most w ≡ []
-trail_end b n zero w e = refl
-trail_end b n (suc most) w e = cond-false _ _ _ e
+-- The records along a trail are the chain.
+chain_of_trail : (b : List ℕ) (n most w : ℕ) → map (λ (h : ℕ × ℕ). h.1) (trail b n most w) ≡ chain b n most (pointer b w)
+chain_of_trail b n zero w = refl
+chain_of_trail b n (suc most) w =
+    elim (cases_Bool (is_index n (pointer b w))) [
+      | inl t ↦ ap (map (λ (h : ℕ × ℕ). h.1)) (cond-true _ _ _ t) ∙ ap (λ l. pointer b w ∷ l) (chain_of_trail b n most (record_word (pointer b w))) ∙ sym (cond-true _ _ _ t)
+      | inr f ↦ ap (map (λ (h : ℕ × ℕ). h.1)) (cond-false _ _ _ f) ∙ sym (cond-false _ _ _ f)
+    ]
 
-pub trail_more : (b : List ℕ) (n most w : ℕ) → 0 < most → is_index n (pointer b w) ≡ true → trail b n most w ≡ (w, pointer b w) ∷ trail b n (most - 1) (record_word (pointer b w))
-trail_more b n zero w h e = absurd (omega arith)
-trail_more b n (suc most) w h e = cond-true _ _ _ e ∙ ap (λ k. (w, pointer b w) ∷ trail b n k (record_word (pointer b w))) back where
-  back : most ≡ suc most - 1
-  back = omega arith
+pub trail_length : (b : List ℕ) (n most w : ℕ) → length (trail b n most w) ≡ length (chain b n most (pointer b w))
+trail_length b n most w = sym (length-map (trail b n most w) (λ (h : ℕ × ℕ). h.1)) ∙ ap length (chain_of_trail b n most w)
 
-pub met_here : (noted : List Bool) (w i : ℕ) (hs : List (ℕ × ℕ)) → get_or noted i false ≡ true → met noted ((w, i) ∷ hs) ≡ Err (BadCase (4 * w))
-met_here noted w i hs e = cond-true _ _ _ e
+pub trail_short : (b : List ℕ) (n most w : ℕ) → length (trail b n most w) ≤ most
+trail_short b n zero w = omega arith
+trail_short b n (suc most) w =
+    elim (cases_Bool (is_index n (pointer b w))) [
+      | inl t ↦ rw (cond-true (is_index n (pointer b w)) ((w, pointer b w) ∷ trail b n most (record_word (pointer b w))) [] t) (omega (arith, trail_short b n most (record_word (pointer b w))))
+      | inr f ↦ rw (cond-false (is_index n (pointer b w)) ((w, pointer b w) ∷ trail b n most (record_word (pointer b w))) [] f) (omega arith)
+    ]
+
+pub item_map : {A B : Type 0} (f : A → B) (xs : List A) (k : ℕ) → item (map f xs) k ≡ option_map f (item xs k)
+item_map f [] k = refl
+item_map f (x ∷ xs) zero = refl
+item_map f (x ∷ xs) (suc k) = item_map f xs k
+
+item_get : {A : Type 0} (xs : List A) (k : ℕ) → slice_get xs k ≡ item xs k
+item_get [] k = refl
+item_get (x ∷ xs) zero = refl
+item_get (x ∷ xs) (suc k) = item_get xs k
+
+pub trail_item : (b : List ℕ) (n most w k : ℕ) (r : Option (ℕ × ℕ)) → option_map (λ h. h) r ≡ slice_get (trail b n most w) k → option_map (λ h. h.1) r ≡ item (chain b n most (pointer b w)) k
+trail_item b n most w k r e =
+    ap (option_map (λ (h : ℕ × ℕ). h.1)) (same r ∙ e ∙ item_get (trail b n most w) k) ∙ sym (item_map (λ (h : ℕ × ℕ). h.1) (trail b n most w) k) ∙ ap (λ l. item l k) (chain_of_trail b n most w) where
+      same : (r : Option (ℕ × ℕ)) → r ≡ option_map (λ h. h) r
+      same None = refl
+      same (Some h) = refl
 
 pub met_more : (noted : List Bool) (w i : ℕ) (hs : List (ℕ × ℕ)) → get_or noted i false ≡ false → met noted ((w, i) ∷ hs) ≡ met (set noted i true) hs
 met_more noted w i hs e = cond-false _ _ _ e
 
-err_clash : {A B : Type 0} {r : Result A B} (x : A) (f : B) → r ≡ Ok x → r ≡ Err f → ⊥
-err_clash x f p q = let z : ◌≡◌ {A = ℕ} 0 1 = cc in omega arith
-
-ok_inside : {A B : Type 0} (x y : A) {r : Result A B} → r ≡ Ok x → r ≡ Ok y → x ≡ y
-ok_inside x y p q = cc
-
 -- After some words that meet nothing again come further ones.
 pub met_on : (hs gs : List (ℕ × ℕ)) (noted after : List Bool) → met noted hs ≡ Ok after → met noted (hs ++ gs) ≡ met after gs
-met_on [] gs noted after e = ap (λ m. met m gs) (ok_inside noted after refl e)
+met_on [] gs noted after e = let same : noted ≡ after = cc in ap (λ m. met m gs) same
 met_on (h ∷ hs) gs noted after e =
     elim (cases_Bool (get_or noted h.1 false)) [
-      | inl t ↦ absurd (err_clash after (BadCase (4 * h.0)) e (cond-true _ _ _ t))
+      | inl t ↦ let err : met noted (h ∷ hs) ≡ Err (BadCase (4 * h.0)) = cond-true _ _ _ t in cc
       | inr f ↦ cond-false _ _ _ f ∙ met_on hs gs (set noted h.1 true) after (sym (cond-false _ _ _ f) ∙ e)
     ]
 
-err_inside : {A B : Type 0} (x y : B) {r : Result A B} → r ≡ Err x → r ≡ Err y → x ≡ y
-err_inside x y p q = cc
-
 pub met_stop : (hs gs : List (ℕ × ℕ)) (noted : List Bool) (f : Fault) → met noted hs ≡ Err f → met noted (hs ++ gs) ≡ Err f
-met_stop [] gs noted f e = absurd (err_clash noted f refl e)
+met_stop [] gs noted f e = cc
 met_stop (h ∷ hs) gs noted f e =
     elim (cases_Bool (get_or noted h.1 false)) [
-      | inl t ↦ cond-true _ _ _ t ∙ ap Err (err_inside (BadCase (4 * h.0)) f (cond-true _ _ _ t) e)
+      | inl t ↦ let err : met noted (h ∷ hs) ≡ Err (BadCase (4 * h.0)) = cond-true _ _ _ t in cond-true _ _ _ t ∙ sym err ∙ e
       | inr s ↦ cond-false _ _ _ s ∙ met_stop hs gs (set noted h.1 true) f (sym (cond-false _ _ _ s) ∙ e)
     ]
 
@@ -93,72 +120,23 @@ trails_more b n w (suc heads) h = ap (λ k. cond (eqb w 10) [] (trail_from b n w
 
 -- ---- positions
 
-pub chain_end : (b : List ℕ) (n most i k : ℕ) → is_index n i ≡ false → item (chain b n most i) k ≡ None
-chain_end b n zero i k e = refl
-chain_end b n (suc most) i k e = ap (λ l. item l k) (cond-false _ _ _ e)
-
-pub chain_first : (b : List ℕ) (n most i k : ℕ) → 0 < most → k ≡ 0 → is_index n i ≡ true → item (chain b n most i) k ≡ Some i
-chain_first b n zero i k h z e = absurd (omega arith)
-chain_first b n (suc most) i k h z e = ap (λ l. item l k) (cond-true _ _ _ e) ∙ ap (item (i ∷ chain b n most (pointer b (record_word i)))) z
-
-pub chain_more : (b : List ℕ) (n most i k : ℕ) → 0 < most → 0 < k → is_index n i ≡ true → item (chain b n most i) k ≡ item (chain b n (most - 1) (pointer b (record_word i))) (k - 1)
-chain_more b n zero i k h z e = absurd (omega arith)
-chain_more b n (suc most) i zero h z e = absurd (omega arith)
-chain_more b n (suc most) i (suc k) h z e = ap (λ l. item l (suc k)) (cond-true _ _ _ e) ∙ ap (λ m. item (chain b n m (pointer b (record_word i))) k) back ∙ ap (item (chain b n (suc most - 1) (pointer b (record_word i)))) last where
-  back : most ≡ suc most - 1
-  back = omega arith
-
-  last : k ≡ suc k - 1
-  last = omega arith
-
--- A chain has at most as many records as are asked for.
-pub chain_past : (b : List ℕ) (n most i k : ℕ) → most ≤ k → item (chain b n most i) k ≡ None
-chain_past b n zero i k h = refl
-chain_past b n (suc most) i zero h = absurd (omega arith)
-chain_past b n (suc most) i (suc k) h =
-    elim (cases_Bool (is_index n i)) [
-      | inl t ↦ ap (λ l. item l (suc k)) (cond-true _ _ _ t) ∙ chain_past b n most (pointer b (record_word i)) k (omega arith)
-      | inr f ↦ ap (λ l. item l (suc k)) (cond-false _ _ _ f)
-    ]
-
-none_some : {A : Type 0} (a : A) → None ≡ Some a → ⊥
-none_some a p = let z : ◌≡◌ {A = ℕ} 0 1 = cc in omega arith
-
-some_same : {A : Type 0} (a b : A) → Some a ≡ Some b → a ≡ b
-some_same a b p = cc
-
 -- A record at a position is one of the file.
 pub chain_index : (b : List ℕ) (n most i k j : ℕ) → item (chain b n most i) k ≡ Some j → (0 < j) × (j ≤ n)
-chain_index b n zero i k j e = absurd (none_some j e)
+chain_index b n zero i k j e = cc
 chain_index b n (suc most) i k j e =
     elim (cases_Bool (is_index n i)) [
       | inl t ↦ first k (ap (λ l. item l k) (sym (cond-true (is_index n i) (i ∷ chain b n most (pointer b (record_word i))) [] t)) ∙ e) (and_parts _ _ t) (λ k. chain_index b n most (pointer b (record_word i)) k j)
-      | inr f ↦ absurd (none_some j (ap (λ l. item l k) (sym (cond-false (is_index n i) (i ∷ chain b n most (pointer b (record_word i))) [] f)) ∙ e))
+      | inr f ↦ let none : None ≡ Some j = ap (λ l. item l k) (sym (cond-false (is_index n i) (i ∷ chain b n most (pointer b (record_word i))) [] f)) ∙ e in cc
     ] where
       first : (k : ℕ) → item (i ∷ chain b n most (pointer b (record_word i))) k ≡ Some j → (ltb 0 i ≡ true) × (leb i n ≡ true) → ((k : ℕ) → item (chain b n most (pointer b (record_word i))) k ≡ Some j → (0 < j) × (j ≤ n)) → (0 < j) × (j ≤ n)
-      first zero p t more = let lo = ltb-true 0 i t.0 in let hi = leb-true i n t.1 in let same = some_same i j p in (omega arith, omega arith)
+      first zero p t more = let lo = ltb-true 0 i t.0 in let hi = leb-true i n t.1 in let same : i ≡ j = cc in (omega arith, omega arith)
       first (suc k) p t more = more k p
 
-pub item_map : {A B : Type 0} (f : A → B) (xs : List A) (k : ℕ) → item (map f xs) k ≡ option_map f (item xs k)
-item_map f [] k = refl
-item_map f (x ∷ xs) zero = refl
-item_map f (x ∷ xs) (suc k) = item_map f xs k
+pub item_index : (b : List ℕ) (n w k : ℕ) (r : Option ℕ) → n ≤ 1024 → r ≡ item (chain_from b n w) k → IfSome r (λ i. (0 < i) × (i < 2 ^ 31))
+item_index b n w k None few e = tt
+item_index b n w k (Some i) few e = let index = chain_index b n n (pointer b w) k i (sym e) in (index.0, omega arith)
 
--- ---- rows and lists
-
--- One value more of a row is read.
-pub row_more : (b : List ℕ) (w m k : ℕ) → k < m → set (cut m (values b w k)) k (word b (w + k)) ≡ cut m (values b w (k + 1))
-row_more b w zero k h = absurd (omega arith)
-row_more b w (suc m) zero h = ap (λ v. word b v ∷ cut m []) same where
-  same : w + 0 ≡ w
-  same = omega arith
-row_more b w (suc m) (suc k) h =
-    ap (λ v. word b w ∷ set (cut m (values b (suc w) k)) k (word b v)) over ∙ ap (λ l. word b w ∷ l) (row_more b (suc w) m k (omega arith)) ∙ ap (λ c. cut (suc m) (values b w c)) more where
-      over : w + suc k ≡ suc w + k
-      over = omega arith
-
-      more : suc (k + 1) ≡ suc k + 1
-      more = omega arith
+-- ---- lists
 
 pub lists_count : (b : List ℕ) (n w count : ℕ) → length (lists_from b n w count) ≡ count
 lists_count b n w zero = refl
@@ -191,57 +169,14 @@ pub verdict_chains : (tables : ℕ) (b : List ℕ) (n : ℕ) (r : Result (Unit {
 unfolding case_verdict
 verdict_chains tables b n r e g h = ap (λ r. r then (λ n. out_of_range b tables n then (λ _. met_again b n then (λ _. Ok n)))) e ∙ ap (λ r. r then (λ _. met_again b n then (λ _. Ok n))) g ∙ ap (λ r. r then (λ _. Ok n)) h
 
--- ---- what a view answers
-
-pub number_none : (b : List ℕ) (n w k : ℕ) → None ≡ item (chain_from b n w) k → None ≡ item (numbers_from b n w) k
-number_none b n w k e = ap (option_map (first_value b)) e ∙ sym (item_map (first_value b) (chain_from b n w) k)
-
-pub number_some : (b : List ℕ) (n w k i : ℕ) → Some i ≡ item (chain_from b n w) k → Some (first_value b i) ≡ item (numbers_from b n w) k
-number_some b n w k i e = ap (option_map (first_value b)) e ∙ sym (item_map (first_value b) (chain_from b n w) k)
-
-pub rows_none : (b widths : List ℕ) (n t k : ℕ) → is_table (length widths) t ≡ false → None ≡ option_map (cut 8) (item (rows_of b widths n t) k)
-rows_none b widths n t k e = sym (ap (λ l. option_map (cut 8) (item l k)) (cond-false _ _ _ e))
-
-rows_at : (b widths : List ℕ) (n t k : ℕ) → is_table (length widths) t ≡ true → item (rows_of b widths n t) k ≡ option_map (row_of b (get_or widths (t - 1) 0)) (item (chain_from b n t) k)
-rows_at b widths n t k e = ap (λ l. item l k) (cond-true _ _ _ e) ∙ item_map (row_of b (get_or widths (t - 1) 0)) (chain_from b n t) k
-
-pub row_none : (b widths : List ℕ) (n t k : ℕ) → is_table (length widths) t ≡ true → None ≡ item (chain_from b n t) k → None ≡ option_map (cut 8) (item (rows_of b widths n t) k)
-row_none b widths n t k e h = ap (λ o. option_map (cut 8) (option_map (row_of b (get_or widths (t - 1) 0)) o)) h ∙ sym (ap (option_map (cut 8)) (rows_at b widths n t k e))
-
-pub row_some : (b widths : List ℕ) (n t k i : ℕ) → is_table (length widths) t ≡ true → Some i ≡ item (chain_from b n t) k → Some (cut 8 (row_of b (get_or widths (t - 1) 0) i)) ≡ option_map (cut 8) (item (rows_of b widths n t) k)
-row_some b widths n t k i e h = ap (λ o. option_map (cut 8) (option_map (row_of b (get_or widths (t - 1) 0)) o)) h ∙ sym (ap (option_map (cut 8)) (rows_at b widths n t k e))
-
-pub list_none : (b : List ℕ) (n count list k : ℕ) → (list ≡ 0) ⊎ ((list ≡ 0 → ⊥) × (count < list)) → None ≡ list_item (lists_from b n 11 count) list k
+pub list_none : (b : List ℕ) (n count list k : ℕ) → (0 < list → list ≤ count → ⊥) → None ≡ list_item (lists_from b n 11 count) list k
 list_none b n count zero k h = refl
-list_none b n count (suc j) k (inl e) = absurd (omega arith)
-list_none b n count (suc j) k (inr h) = let past = h.1 in sym (ap (λ o. in_list o k) (list_past b n 11 count j (omega arith)))
+list_none b n count (suc j) k h = let past = h (omega arith) in sym (ap (λ o. in_list o k) (list_past b n 11 count j (omega arith)))
 
-pub list_some : (b : List ℕ) (n count list k : ℕ) → (list ≡ 0 → ⊥) → list ≤ count → item (numbers_from b n (10 + list)) k ≡ list_item (lists_from b n 11 count) list k
-list_some b n count zero k some le = absurd (some refl)
+pub list_some : (b : List ℕ) (n count list k : ℕ) → 0 < list → list ≤ count → item (numbers_from b n (10 + list)) k ≡ list_item (lists_from b n 11 count) list k
+list_some b n count zero k some le = absurd (omega arith)
 list_some b n count (suc j) k some le = ap (λ w. item (numbers_from b n w) k) over ∙ sym (ap (λ o. in_list o k) (list_at b n 11 count j (omega arith))) where
   over : 10 + suc j ≡ 11 + j
   over = omega arith
 
 -- ---- lengths
-
-pub length_end : (b : List ℕ) (n most i : ℕ) → is_index n i ≡ false → length (chain b n most i) ≡ 0
-length_end b n zero i e = refl
-length_end b n (suc most) i e = ap length (cond-false _ _ _ e)
-
-pub length_more : (b : List ℕ) (n most i : ℕ) → 0 < most → is_index n i ≡ true → length (chain b n most i) ≡ 1 + length (chain b n (most - 1) (pointer b (record_word i)))
-length_more b n zero i h e = absurd (omega arith)
-length_more b n (suc most) i h e = let same = ap (λ m. length (chain b n m (pointer b (record_word i)))) back in ap length (cond-true _ _ _ e) ∙ omega arith where
-  back : most ≡ suc most - 1
-  back = omega arith
-
-pub length_none : (b : List ℕ) (n most i : ℕ) → most ≡ 0 → length (chain b n most i) ≡ 0
-length_none b n most i e = ap (λ m. length (chain b n m i)) e
-
-pub rows_length : (b widths : List ℕ) (n t : ℕ) → is_table (length widths) t ≡ true → length (rows_of b widths n t) ≡ length (chain_from b n t)
-rows_length b widths n t e = ap length (cond-true _ _ _ e) ∙ length-map (chain_from b n t) (row_of b (get_or widths (t - 1) 0))
-
-pub no_rows : (b widths : List ℕ) (n t : ℕ) → is_table (length widths) t ≡ false → length (rows_of b widths n t) ≡ 0
-no_rows b widths n t e = ap length (cond-false _ _ _ e)
-
-pub numbers_length : (b : List ℕ) (n w : ℕ) → length (numbers_from b n w) ≡ length (chain_from b n w)
-numbers_length b n w = length-map (chain_from b n w) (first_value b)

@@ -3,3 +3,4 @@ pub mod Ranges
 pub mod Chains
 pub mod Meaning
 pub mod View
+pub mod Trails

@@ -7,9 +7,9 @@ use Rattle.cases.specs.Meaning.{case_of}
 
 -- The case that a view shows.
 abbrev pub shown : View → Case
-shown v = case_of v.bytes.now v.widths.now v.records
+shown v = case_of v.file.bytes.now v.widths.now v.file.records
 
 -- What reading answers, apart from the memory that it borrows.
 abbrev pub case_read : Result View Fault → Result ℕ Fault
-case_read (Ok v) = Ok v.records
+case_read (Ok v) = Ok v.file.records
 case_read (Err f) = Err f

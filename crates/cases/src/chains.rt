@@ -1,84 +1,92 @@
 //! Chains of records.
-ghost use Rattle.std.specs.Prelude.{◌≡◌, ◌^◌, ◌<◌, ◌≤◌, length, IfSome, Ok, Err, MatchResult};
-ghost use Rattle.faults.specs.declared.Fault.TheVariants.{BadCase};
-ghost use Rattle.cases.specs.Chains.{trail_from, met, met_again, item, chain_from};
+ghost use Rattle.std.specs.Prelude.{◌≡◌, ◌^◌, ◌<◌, length, IfSome, Ok, Err, MatchResult};
+ghost use Rattle.std.specs.Iterator.{YieldsFirst, item_count};
+ghost use Rattle.cases.specs.Chains.{trail_from, trail, met, met_again, item, chain_from};
+ghost use Rattle.cases.specs.Trails.{trail_left};
 
-use super::words::{index_at, record_at};
+use super::file::File;
+use super::words::{HEAD, LISTS, record_at};
 use faults::Fault;
 
-/// Follows the chain whose head is a word, and notes each record that it meets; refuses the index that meets one again.
-fn follow(bytes: &[u8], records: usize, head: usize, noted: &mut [bool]) -> Result<(), Fault>
-    requires few { records ≤ 1024 }
-    requires head { head < 19 }
-    requires room { length noted.old ≡ 1025 }
-    ensures room { length noted.new ≡ 1025 }
-    ensures value { MatchResult result (λ _. met noted.old (trail_from bytes.now records head) ≡ Ok noted.new) (λ f. met noted.old (trail_from bytes.now records head) ≡ Err f) }
-{
-    let mut place = head;
-    for _turn in 0..records + 1 {
-        let index = index_at(bytes, place);
-        if index == 0 || index > records {
-            return Ok(());
-        }
-        if noted[index] {
-            return Err(Fault::BadCase { place: 4 * place });
-        }
-        noted[index] = true;
-        place = record_at(index);
-    }
-    Ok(())
+/// A place for each record, and one that stays free since records are counted from 1.
+const PLACES: usize = 1_025;
+
+/// Walks a chain: the words that it goes through, each with the record that it points to; at most as many as are left.
+#[derive(Drop)]
+struct Trail<'a> {
+    file: File<'a>,
+    word: usize,
+    left: usize,
 }
 
-/// Follows the chains of all heads in their order.
-pub(crate) fn check_chains(bytes: &[u8], records: usize) -> Result<(), Fault>
-    requires { records ≤ 1024 }
-    ensures { result ≡ met_again bytes.now records }
-{
-    let mut noted = [false; 1_025];
-    for head in 1..19 {
-        if head != 10 {
-            follow(bytes, records, head, &mut noted)?;
-        }
+impl<'a> Iterator for Trail<'a> {
+    type Item = (usize, usize);
+
+    ghost next_gives = { YieldsFirst trail_left };
+
+    ghost remaining = { item_count trail_left };
+
+    fn next(&mut self) -> Option<(usize, usize)> {
+        self.left = self.left.checked_sub(1)?;
+        let word = self.word;
+        let record = self.file.record(word)?;
+        self.word = record_at(record);
+        Some((word, record))
     }
-    Ok(())
 }
 
-/// The record at a position of the chain whose head is a word.
-pub(crate) fn nth_record(
-    bytes: &[u8],
-    records: usize,
-    head: usize,
-    position: usize,
-) -> Option<usize>
-    ensures value { result ≡ item (chain_from bytes.now records head) position }
-    ensures index { IfSome result (λ i. (0 < i) × (i < 2 ^ 31)) }
-{
-    if position >= records {
-        return None;
-    }
-    let mut index = index_at(bytes, head);
-    for _turn in 0..position {
-        if index == 0 || index > records {
-            return None;
+impl<'a> File<'a> {
+    /// Walks the chain whose head is a word.
+    fn trail(&self, head: usize, most: usize) -> Trail<'a>
+        ensures { trail_left result ≡ trail self.now.bytes.now self.now.records most head }
+    {
+        Trail {
+            file: *self,
+            word: head,
+            left: most,
         }
-        index = index_at(bytes, record_at(index));
     }
-    if index == 0 || index > records {
-        return None;
-    }
-    Some(index)
-}
 
-/// How many records the chain has whose head is a word.
-pub(crate) fn chain_length(bytes: &[u8], records: usize, head: usize) -> usize
-    ensures { result ≡ length (chain_from bytes.now records head) }
-{
-    let mut index = index_at(bytes, head);
-    for turn in 0..records {
-        if index == 0 || index > records {
-            return turn;
+    /// Follows a chain, and notes each record that it meets; refuses the index that meets one again.
+    fn follow(&self, head: usize, noted: &mut [bool; PLACES]) -> Result<(), Fault>
+        requires { head < 19 }
+        ensures { MatchResult result (λ _. met noted.old (trail_from self.now.bytes.now self.now.records head) ≡ Ok noted.new) (λ f. met noted.old (trail_from self.now.bytes.now self.now.records head) ≡ Err f) }
+    {
+        for (word, record) in self.trail(head, self.records + 1) {
+            if noted[record] {
+                return Err(Fault::BadCase { place: 4 * word });
+            }
+            noted[record] = true;
         }
-        index = index_at(bytes, record_at(index));
+        Ok(())
     }
-    records
+
+    /// Follows the chains of all heads in their order.
+    pub(crate) fn check_chains(&self) -> Result<(), Fault>
+        ensures { result ≡ met_again self.now.bytes.now self.now.records }
+    {
+        let mut noted = [false; PLACES];
+        for head in 1..HEAD {
+            if head != LISTS {
+                self.follow(head, &mut noted)?;
+            }
+        }
+        Ok(())
+    }
+
+    /// The record at a position of the chain whose head is a word.
+    pub(crate) fn nth_record(&self, head: usize, position: usize) -> Option<usize>
+        ensures value { result ≡ item (chain_from self.now.bytes.now self.now.records head) position }
+        ensures index { IfSome result (λ i. (0 < i) × (i < 2 ^ 31)) }
+    {
+        let link = self.trail(head, self.records).nth(position);
+        link.map(|(_, record)| record)
+    }
+
+    /// How many records the chain has whose head is a word.
+    pub(crate) fn chain_length(&self, head: usize) -> usize
+        ensures { result ≡ length (chain_from self.now.bytes.now self.now.records head) }
+    {
+        self.trail(head, self.records).count()
+    }
 }

@@ -3,5 +3,6 @@
 
 mod chains;
 mod check;
+mod file;
 pub mod view;
 mod words;

@@ -17,23 +17,24 @@ pub(crate) const READS: usize = 9;
 /// The word that is the count of lists.
 pub(crate) const LISTS: usize = 10;
 
+/// The most tables; their heads stand before that of the reads.
+pub(crate) const MOST_TABLES: usize = 8;
+
+/// The most lists; their heads stand behind their count.
+pub(crate) const MOST_LISTS: i32 = 8;
+
 /// The largest count of records.
-pub(crate) const MOST_RECORDS: i32 = 1_024;
+pub(crate) const MOST_RECORDS: usize = 1_024;
 
 /// The word at a place counted in words: four bytes, the high one first, with a sign. Beyond the file it is 0.
 pub(crate) fn word_at(bytes: &[u8], at: usize) -> i32
     ensures { result ≡ word bytes.now at }
 {
-    if at >= bytes.len() / 4 {
-        return 0;
+    let (words, _) = bytes.as_chunks::<4>();
+    match words.get(at) {
+        Some(word) => i32::from_be_bytes(*word),
+        None => 0,
     }
-    let from = 4 * at;
-    i32::from_be_bytes([
-        bytes[from],
-        bytes[from + 1],
-        bytes[from + 2],
-        bytes[from + 3],
-    ])
 }
 
 /// The word at a place as an index; one below 0 is none.
@@ -41,8 +42,7 @@ pub(crate) fn index_at(bytes: &[u8], at: usize) -> usize
     ensures value { result ≡ index_of (word bytes.now at) }
     ensures small { result < 2 ^ 31 }
 {
-    let word = word_at(bytes, at);
-    if word < 0 { 0 } else { word as usize }
+    usize::try_from(word_at(bytes, at)).unwrap_or(0)
 }
 
 /// The place of a record's first word; records are counted from 1.

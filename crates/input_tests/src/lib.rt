@@ -10,10 +10,7 @@ use std::alloc::Global;
 
 /// Whether a path is refused at a place.
 pub fn path_breaks(heap: Global, text: &[u8], place: usize) -> bool {
-    match read_path(heap, text) {
-        Ok(_) => false,
-        Err(fault) => fault == Fault::BadPath { place },
-    }
+    read_path(heap, text).is_err_and(|fault| fault == Fault::BadPath { place })
 }
 
 /// A path read and written again.
@@ -25,20 +22,17 @@ pub fn path_again(heap: Global, text: &[u8]) -> Result<String, Fault> {
 /// The place at which a case file is refused, for two tables of 1 and 8 attributes; `None` where it is not.
 pub fn case_place(bytes: &[u8]) -> Option<usize> {
     match read_case(bytes, &[1, 8]) {
-        Ok(_) => None,
         Err(Fault::BadCase { place }) => Some(place),
-        Err(_) => None,
+        _ => None,
     }
 }
 
 /// The number that is given for a word, or another where none is.
 fn word_of(changes: &[(usize, i32)], at: usize, own: i32) -> i32 {
-    for change in changes {
-        if change.0 == at {
-            return change.1;
-        }
-    }
-    own
+    changes
+        .iter()
+        .find(|change| change.0 == at)
+        .map_or(own, |change| change.1)
 }
 
 /// A case file of some records whose words are 0 but for the count of records and the given ones.
@@ -69,10 +63,7 @@ pub fn ranges(heap: Global, at: u8, low: i32, high: i32) -> Result<bool, Fault> 
 
 /// Whether a text is refused at a line.
 pub fn text_refused(heap: Global, text: &[u8], line: usize) -> bool {
-    match case_bytes(heap, text) {
-        Ok(_) => false,
-        Err(fault) => fault == TextFault::BadLine { line },
-    }
+    case_bytes(heap, text).is_err_and(|fault| fault == TextFault::BadLine { line })
 }
 
 #[cfg(test)]
@@ -172,27 +163,19 @@ mod tests {
     #[test]
     fn texts_are_cases(rt: HostRuntime) -> Result<(), Fail> {
         let heap = rt.alloc();
-        let bytes = case_bytes(
+        let file = case_bytes(
             heap,
             b"table 2\n7 -3\n8\ntable 1\n5\nreads 1 -2\nlist\nlist 4\n",
-        );
-        match bytes {
-            Ok(file) => {
-                let case = read_case(file.as_slice(), &[1, 8])?;
-                assert!(rt; case.row(2, 0) == Some([7, -3, 0, 0, 0, 0, 0, 0]));
-                assert!(rt; case.row(2, 1) == Some([8, 0, 0, 0, 0, 0, 0, 0]));
-                assert!(rt; case.row(2, 2) == None && case.rows(2) == 2 && case.rows(3) == 0);
-                assert!(rt; case.row(1, 0) == Some([5, 0, 0, 0, 0, 0, 0, 0]));
-                assert!(rt; case.read(1) == Some(-2) && case.read(2) == None && case.reads() == 2);
-                assert!(rt; case.lists() == 2 && case.list(1, 0) == None);
-                assert!(rt; case.list(2, 0) == Some(4) && case.list(3, 0) == None);
-                Ok(())
-            }
-            Err(_) => {
-                assert!(rt; false);
-                Ok(())
-            },
-        }
+        )?;
+        let case = read_case(file.as_slice(), &[1, 8])?;
+        assert!(rt; case.row(2, 0) == Some([7, -3, 0, 0, 0, 0, 0, 0]));
+        assert!(rt; case.row(2, 1) == Some([8, 0, 0, 0, 0, 0, 0, 0]));
+        assert!(rt; case.row(2, 2) == None && case.rows(2) == 2 && case.rows(3) == 0);
+        assert!(rt; case.row(1, 0) == Some([5, 0, 0, 0, 0, 0, 0, 0]));
+        assert!(rt; case.read(1) == Some(-2) && case.read(2) == None && case.reads() == 2);
+        assert!(rt; case.lists() == 2 && case.list(1, 0) == None);
+        assert!(rt; case.list(2, 0) == Some(4) && case.list(3, 0) == None);
+        Ok(())
     }
 
     #[test]

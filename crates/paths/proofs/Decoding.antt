@@ -209,9 +209,9 @@ found_by b s at r (some letter.C) e p = number_found Exception.C C 67 b s at r (
 found_by b s at r (some letter.D) e p = number_found Exception.D D 68 b s at r (λ n. refl) (λ n. refl) (λ n. refl) (letter_code b letter.D e) p
 
 -- The mark at a place inside a line, by the byte there.
-pub read_at : (line : List ℕ) (at b : ℕ) → at < length line → b ≡ get_or line at 0 → read_mark (drop at line) at ≡ mark_by (letter_by b) (drop (at + 1) line) at
+pub read_at : (line : List ℕ) (at : ℕ) → at < length line → read_mark (drop at line) at ≡ mark_by (letter_by (get_or line at 0)) (drop (at + 1) line) at
 unfolding read_mark
-read_at line at b lt e = ap (λ l. read_mark l at) (drop_more line at 0 lt) ∙ ap (λ x. mark_by (letter_by x) (drop (at + 1) line) at) (sym e)
+read_at line at lt = ap (λ l. read_mark l at) (drop_more line at 0 lt)
 
 pub read_end : (line : List ℕ) (at : ℕ) → length line ≤ at → read_mark (drop at line) at ≡ Err (BadPath at)
 unfolding read_mark

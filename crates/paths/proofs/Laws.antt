@@ -89,9 +89,6 @@ pub record Reached (line : List ℕ) (hs : List Held) (at : ℕ) : Type 0 where
   pub front : take at line ≡ opening ms
   pub within : at ≤ length line
 
-pub reached_none : (line : List ℕ) → Reached line [] 0
-reached_none line = record { ms = []; holds = refl; front = refl; within = omega arith }
-
 held_count : (line : List ℕ) (hs : List Held) (at : ℕ) (h : Reached line hs at) → length h.ms ≡ length hs
 held_count line hs at h = sym (ap length h.holds ∙ length-map h.ms held)
 
@@ -367,9 +364,9 @@ pub read_again : (text : List ℕ) (r : Result (List Held) Fault) → LineAnswer
 read_again text r a hs e few is = subst (λ l. (r ≡ Ok l) ⊎ (r ≡ Err Memory)) (all_exact hs e) (read_back text r a (map mark_of hs) (omega (arith, length-map hs mark_of)) is)
 
 -- The part of a text that is handed on is its line.
-pub line_part : (text : List ℕ) (n : ℕ) → n ≡ prefix_len in_line text → take (n - 0) text ≡ line_of text
+pub line_part : (text : List ℕ) (n : ℕ) → n ≡ prefix_len in_line text → take n text ≡ line_of text
 unfolding line_of
-line_part text n e = let same : n - 0 ≡ prefix_len in_line text = omega arith in ap (λ k. take k text) same
+line_part text n e = ap (λ k. take k text) e
 
 further_push : (ms : List Meant) (m : Meant) → further (ms ++ (m ∷ [])) ≡ further ms ++ (32 ∷ spell m)
 further_push [] m = ap (λ l. 32 ∷ l) (append-nil (spell m))

@@ -5,7 +5,7 @@ use Rattle.std.specs.Int.Digits.{digits_of, number_from_digits, AllBelowBase}
 use Rattle.std.specs.List.{prefix_len}
 use Rattle.std.proofs.lemmas.Fmt.{decimal_digit, decimal-digits_of}
 use Rattle.std.proofs.lemmas.Int.Digits.{digits_of_step, number_digits_of, all_below_base_digits_of, first_digits_of, number_push, number_after_ge}
-use Rattle.std.proofs.lemmas.List.{take_more, take_all, map_more}
+use Rattle.std.proofs.lemmas.List.{take_more, take_all, map_push}
 use Rattle.std.proofs.lemmas.Bool.{le-leb, leb-true, and_parts, and_from, cond-true, cond-false}
 use Rattle.paths.specs.Spelling.{numeral}
 use Rattle.paths.specs.Reading.{is_digit, value_of}
@@ -152,10 +152,10 @@ numeral_value ds a h =
     let up = suc_of (number_from_digits 10 es) past in
     (up.0, up.1, ap numeral (sym up.1) ∙ numeral_up (number_from_digits 10 es) past ∙ ap (map (λ d. 48 + d)) is ∙ down_up ds a)
 
--- One digit is passed.
-pub value_more : (ds : List ℕ) (i : ℕ) → i < length ds → value_of (take (i + 1) ds) ≡ value_of (take i ds) * 10 + (get_or ds i 0 - 48)
+-- One digit more.
+pub value_push : (ds : List ℕ) (d : ℕ) → value_of (ds ++ d ∷ []) ≡ value_of ds * 10 + (d - 48)
 unfolding value_of
-value_more ds i h = ap (number_from_digits 10) (map_more (λ b. b - 48) ds i 0 h) ∙ number_push 10 (map (λ b. b - 48) (take i ds)) (get_or ds i 0 - 48)
+value_push ds d = ap (number_from_digits 10) (map_push (λ b. b - 48) ds d) ∙ number_push 10 (map (λ b. b - 48) ds) (d - 48)
 
 -- What is printed of a number is its numeral.
 pub decimal_numeral : (n : ℕ) → n < 2 ^ 64 → decimal n ≡ numeral n

@@ -14,24 +14,22 @@ fn digits(bytes: &[u8]) -> usize
     ensures within { result ≤ length bytes.now }
     ensures value { result ≡ prefix_len is_digit bytes.now }
 {
-    for (i, byte) in bytes.iter().enumerate() {
-        if *byte < b'0' || *byte > b'9' {
-            return i;
-        }
-    }
-    bytes.len()
+    bytes
+        .iter()
+        .take_while(|byte| byte.is_ascii_digit())
+        .count()
 }
 
 /// The number that digits spell, as it is held.
 fn held_number(digits: &[u8]) -> u32
     ensures { result ≡ held_number (value_of digits.now) }
 {
-    let mut value: u32 = 0;
-    for digit in digits {
-        let longer = value * 10 + u32::from(digit.saturating_sub(b'0'));
-        value = longer.min(MOST_NUMBER);
-    }
-    value
+    digits.iter().fold(0, |value: u32, digit| {
+        let longer = value
+            .saturating_mul(10)
+            .saturating_add(u32::from(digit.saturating_sub(b'0')));
+        longer.min(MOST_NUMBER)
+    })
 }
 
 /// The number at a place of a line, which has no leading zero, and the place behind it.
@@ -47,5 +45,5 @@ pub(crate) fn read_number(line: &[u8], at: usize) -> Result<(u32, usize), Fault>
     if rest[0] == b'0' {
         return Ok((0, at + 1));
     }
-    Ok((held_number(&rest[0..count]), at + count))
+    Ok((held_number(&rest[..count]), at + count))
 }

@@ -20,23 +20,19 @@ fn line_length(text: &[u8]) -> usize
     ensures within { result ≤ length text.now }
     ensures value { result ≡ prefix_len in_line text.now }
 {
-    for (i, byte) in text.iter().enumerate() {
-        if *byte == b'\n' {
-            return i;
-        }
-    }
-    text.len()
+    text.iter().take_while(|byte| **byte != b'\n').count()
 }
 
 /// The mark at a place of a line, and the place behind it.
+#[tactic(auto, using(crate::proofs::Decoding::read_at, crate::proofs::Decoding::read_end))]
 fn read_mark(line: &[u8], at: usize) -> Result<(Mark, usize), Fault>
     requires { at ≤ length line.now }
     ensures { result ≡ read_mark (drop at line.now) at }
 {
-    if at == line.len() {
+    let Some(byte) = line.get(at) else {
         return Err(Fault::BadPath { place: at });
-    }
-    match char::from(line[at]) {
+    };
+    match char::from(*byte) {
         'T' => Ok((Mark::T, at + 1)),
         'E' => Ok((Mark::E, at + 1)),
         'L' => Ok((Mark::L, at + 1)),
@@ -45,18 +41,9 @@ fn read_mark(line: &[u8], at: usize) -> Result<(Mark, usize), Fault>
         'X' => Ok((Mark::X, at + 1)),
         'W' => Ok((Mark::W, at + 1)),
         'K' => Ok((Mark::K, at + 1)),
-        'F' => {
-            let (number, end) = read_number(line, at + 1)?;
-            Ok((Mark::F(number), end))
-        }
-        'C' => {
-            let (number, end) = read_number(line, at + 1)?;
-            Ok((Mark::C(number), end))
-        }
-        'D' => {
-            let (number, end) = read_number(line, at + 1)?;
-            Ok((Mark::D(number), end))
-        }
+        'F' => read_number(line, at + 1).map(|(number, end)| (Mark::F(number), end)),
+        'C' => read_number(line, at + 1).map(|(number, end)| (Mark::C(number), end)),
+        'D' => read_number(line, at + 1).map(|(number, end)| (Mark::D(number), end)),
         _ => Err(Fault::BadPath { place: at }),
     }
 }
@@ -67,17 +54,16 @@ fn read_line(heap: Global, line: &[u8]) -> Result<Vec<Mark>, Fault>
     ensures { LineAnswers line.now (marks_read result) }
 {
     let mut marks = Vec::new(heap);
+    // No split at spaces: the parts do not tell their places, which a refusal needs.
     let mut at = 0;
     while marks.len() < MOST_MARKS {
         let (mark, end) = read_mark(line, at)?;
         marks.push(mark)?;
-        if end == line.len() {
-            return Ok(marks);
+        match line.get(end) {
+            None => return Ok(marks),
+            Some(b' ') => at = end + 1,
+            Some(_) => return Err(Fault::BadPath { place: end }),
         }
-        if line[end] != b' ' {
-            return Err(Fault::BadPath { place: end });
-        }
-        at = end + 1;
     }
     Err(Fault::BadPath { place: at })
 }
@@ -88,7 +74,7 @@ pub fn read_path(heap: Global, text: &[u8]) -> Result<Vec<Mark>, Fault>
     ensures back { (ms : List Meant) → length ms ≤ 512 → text.now ≡ spelled ms → (marks_read result ≡ Ok (map held ms)) ⊎ (marks_read result ≡ Err Memory) }
     ensures again { (hs : List Held) → AllExact hs → length hs ≤ 512 → text.now ≡ spelled (map mark_of hs) → (marks_read result ≡ Ok hs) ⊎ (marks_read result ≡ Err Memory) }
 {
-    let line = &text[0..line_length(text)];
+    let line = &text[..line_length(text)];
     if line.is_empty() {
         return Ok(Vec::new(heap));
     }

@@ -17,8 +17,7 @@ pub fn write_path(heap: Global, marks: &[Mark]) -> Result<String, Fault>
         if i > 0 {
             text.push_str(" ")?;
         }
-        let word = format!(in heap; "{mark}")?;
-        text.push_str(word.as_str())?;
+        write!(text, "{mark}")?;
     }
     Ok(text)
 }

@@ -1,4 +1,4 @@
-use Rattle.std.proofs.Common.{◌≡◌, ◌+◌, ◌-◌, ◌<◌, get_or, take, drop, Ok, sym, ap, ◌∙◌, arith}
+use Rattle.std.proofs.Common.{◌≡◌, ◌+◌, ◌<◌, get_or, take, drop, Ok, sym, ap, ◌∙◌, arith}
 use Rattle.std.specs.List.{prefix_len}
 use Rattle.std.proofs.lemmas.List.{take_rest}
 use Rattle.paths.specs.Marks.{held_number}
@@ -29,6 +29,5 @@ returns c =
     let front = ap (λ l. get_or l 0 0) rest in
     let z : get_or s 0 0 ≡ 48 → ⊥ = λ e. omega arith in
     let more : 0 < k = omega arith in
-    let zero-off : k - 0 ≡ k = omega arith in
-    let held : c.held_number.result ≡ held_number (value_of (take k s)) = c.held_number.ensures ∙ ap (λ l. held_number (value_of l)) (ap (take (k - 0)) rest ∙ ap (λ n. take n s) zero-off) in
+    let held : c.held_number.result ≡ held_number (value_of (take k s)) = c.held_number.ensures ∙ ap (λ l. held_number (value_of (take k l))) rest in
     ap (λ v. Ok (v, c.args.at + k)) held ∙ sym (by_count s c.args.at k count ∙ more_first s c.args.at k more z)

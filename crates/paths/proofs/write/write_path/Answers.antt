@@ -1,6 +1,5 @@
 use Rattle.std.proofs.Common.{◌≡◌, ◌+◌, [], ◌∷◌, ◌++◌, map, length, get_or, take, string_bytes, sym, ap, ◌∙◌, arith}
 use Rattle.std.proofs.lemmas.List.{map_more, take_all, length-map, length-take-le}
-use Rattle.std.proofs.lemmas.Result.{IfOk-from_err}
 use Rattle.paths.specs.declared.mark.Mark.TheVariants.{T}
 use Rattle.paths.specs.Marks.{mark_of}
 use Rattle.paths.specs.Spelling.{spell, spelled}
@@ -15,24 +14,19 @@ loop-i-preserved c =
     let ms = map mark_of (take i marks) in
     let m = mark_of (get_or marks i T) in
     let count : length ms ≡ i = length-map (take i marks) mark_of ∙ length-take-le i marks (omega arith) in
-    let text = c.as_str.ensures.value in
-    let word : string_bytes c.in_ok-word.word ≡ spell m = c.in_ok-word.ensures.ok in
     let more : map mark_of (take (i + 1) marks) ≡ ms ++ (m ∷ []) = map_more mark_of marks i T c.loop-i-test.true in
     let front : string_bytes c.if-i-gt0.text ++ spell m ≡ spelled (ms ++ (m ∷ [])) = elim c.if-i-gt0.branch [
       | then-i-gt0+in_ok-push_str w ↦
           ap (λ t. string_bytes t ++ spell m) w.text-is ∙ ap (λ l. l ++ spell m) (w.in_ok-push_str.ensures.bytes ∙ ap (λ l. l ++ (32 ∷ [])) c.loop-i.invariant) ∙ sym (spelled_push ms m (omega (arith, w.if-i-gt0.true)))
       | else-i-gt0 w ↦ ap (λ t. string_bytes t ++ spell m) w.text-is ∙ ap (λ l. l ++ spell m) c.loop-i.invariant ∙ sym (spelled_first ms m (omega (arith, w.if-i-gt0.false)))
     ] in
-    c.in_ok-push_str-2.ensures.bytes ∙ ap (λ l. string_bytes c.if-i-gt0.text ++ l) (text ∙ word) ∙ front ∙ ap spelled (sym more)
+    c.in_ok-write.ensures.bytes ∙ front ∙ ap spelled (sym more)
 
-pub returns-in_err-push_str : goal.returns-in_err-push_str
-returns-in_err-push_str c = record { text = IfOk-from_err _ _ c.from_residual.ensures.0; only = λ ms. spelled_same ms _ }
+pub returns-in_err-push_str-clause-only : goal.returns-in_err-push_str-clause-only
+returns-in_err-push_str-clause-only c = λ ms. spelled_same ms _
 
-pub returns-in_err-word : goal.returns-in_err-word
-returns-in_err-word c = record { text = IfOk-from_err _ _ c.from_residual-in_err-word.ensures.0; only = λ ms. spelled_same ms _ }
-
-pub returns-in_err-push_str-2 : goal.returns-in_err-push_str-2
-returns-in_err-push_str-2 c = record { text = IfOk-from_err _ _ c.from_residual-in_err-push_str-2.ensures.0; only = λ ms. spelled_same ms _ }
+pub returns-in_err-write-clause-only : goal.returns-in_err-write-clause-only
+returns-in_err-write-clause-only c = λ ms. spelled_same ms _
 
 pub returns : goal.returns
 returns c =
