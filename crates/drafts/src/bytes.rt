@@ -87,11 +87,13 @@ impl Draft {
         (next.chain == self.records[at].chain).then_some(at + 1)
     }
 
-    /// Adds a record at the end of its chain.
-    fn add(&mut self, chain: Chain, values: [i32; 8]) -> Result<(), LineFault> {
-        if self.records.len() == MOST_RECORDS {
+    /// Adds a record at the end of its chain; it has at most 8 values, and the others are 0.
+    fn add(&mut self, chain: Chain, given: &[i32]) -> Result<(), LineFault> {
+        if self.records.len() == MOST_RECORDS || given.len() > VALUES {
             return Err(LineFault::Bad);
         }
+        let mut values = [0; VALUES];
+        values[..given.len()].copy_from_slice(given);
         self.records.push(Written { chain, values })?;
         Ok(())
     }
@@ -99,20 +101,15 @@ impl Draft {
     /// Adds a record for each number.
     fn add_numbers(&mut self, chain: Chain, numbers: &[i32]) -> Result<(), LineFault> {
         for number in numbers {
-            self.add(chain, [*number, 0, 0, 0, 0, 0, 0, 0])?;
+            self.add(chain, &[*number])?;
         }
         Ok(())
     }
 
-    /// Adds a row of the table that stands above it; it has at most 8 numbers.
+    /// Adds a row of the table that stands above it.
     fn add_row(&mut self, numbers: &[i32]) -> Result<(), LineFault> {
         let table = self.table.ok_or(LineFault::Bad)?;
-        if numbers.len() > VALUES {
-            return Err(LineFault::Bad);
-        }
-        let mut values = [0; VALUES];
-        values[..numbers.len()].copy_from_slice(numbers);
-        self.add(Chain::Rows(table), values)
+        self.add(Chain::Rows(table), numbers)
     }
 
     /// Refuses a chain that has records already.
