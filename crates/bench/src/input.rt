@@ -1,7 +1,6 @@
 //! Lines and blocks of standard input, read through a buffer.
-ghost use Rattle.std.specs.Prelude.{◌≡◌, ◌≤◌, IfErr};
+ghost use Rattle.std.specs.Prelude.{◌≡◌, IfErr};
 ghost use Rattle.std.specs.IoError.{error_kind};
-ghost use Rattle.std.specs.Io.Iter.{pieces_left_to_read};
 
 use std::alloc::Global;
 use std::io;
@@ -18,9 +17,7 @@ pub(crate) fn lines_of(stdin: Stdin, heap: Global) -> io::Result<Lines>
 }
 
 /// Reads a block, each line with its newline, up to a line that is a lone dot.
-pub(crate) fn read_block(lines: &mut Lines, heap: Global) -> io::Result<Vec<u8>>
-    ensures { pieces_left_to_read lines.new ≤ pieces_left_to_read lines.old }
-{
+pub(crate) fn read_block(lines: &mut Lines, heap: Global) -> io::Result<Vec<u8>> {
     let mut block = Vec::new(heap);
     while let Some(line) = lines.next() {
         let line = line?;

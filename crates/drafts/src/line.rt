@@ -7,7 +7,7 @@ use std::alloc::{AllocError, AllocFailed, Global};
 const MOST: i32 = 1_000_000_000;
 
 /// Why a line is not taken.
-#[derive(Clone, Copy, PartialEq, Eq, Debug)]
+#[derive(Clone, Copy)]
 pub(crate) enum LineFault {
     /// It says nothing of a case where it stands.
     Bad,

@@ -60,6 +60,7 @@ pub fn case_bytes(heap: Global, text: &[u8]) -> Result<Vec<u8>, TextFault>
     ensures { IfOk result (λ v. is_ok (case_verdict 8 v.items) ≡ true) }
 {
     let mut draft = Draft::new(heap);
+    // Counted by hand, since the last number is told too, once the lines have ended.
     let mut count = 0;
     for line in text.split_inclusive(|byte| *byte == b'\n') {
         count += 1;
