@@ -1,115 +1,100 @@
 //! The console of the path bench: reads commands from standard input, a line each, and answers each on standard output.
 #![tactic(auto)]
 
+use answer::Answer;
 use anyhow::anyhow;
 use console::{Command, read_command};
 use drafts::hex::hex_bytes;
 use drafts::text::case_bytes;
-use faults::Fault;
-use input::Input;
+use input::{Lines, lines_of, read_block};
+use std::alloc::Global;
 use syntax::whole::check_form;
 
+mod answer;
 mod input;
 
 /// What was set by earlier commands.
 #[derive(Drop)]
-struct Setting {
+struct Bench {
+    heap: Global,
     path: Vec<u8>,
     case: Vec<u8>,
 }
 
-/// Answers `model`; says whether the answer is an error.
-fn answer_model(rt: &HostRuntime, text: &[u8]) -> anyhow::Result<bool> {
+impl Bench {
+    /// Answers `path`: what stands behind the word and one space is the path.
+    fn answer_path(&mut self, line: &[u8]) -> anyhow::Result<Answer> {
+        let path = line.strip_prefix(b"path ").unwrap_or(b"");
+        self.path.clear();
+        self.path.extend_from_slice(path)?;
+        Ok(Answer::PathSet)
+    }
+
+    /// Sets the case.
+    fn set_case(&mut self, bytes: Vec<u8>) -> Answer {
+        let answer = Answer::CaseSet { bytes: bytes.len() };
+        self.case = bytes;
+        answer
+    }
+
+    /// Answers `case` with its block.
+    fn answer_case(&mut self, text: &[u8]) -> Answer {
+        match case_bytes(self.heap, text) {
+            Ok(bytes) => self.set_case(bytes),
+            Err(fault) => Answer::CaseFault(fault),
+        }
+    }
+
+    /// Answers `case-hex`: what stands behind the word and one space is a case file in hexadecimal.
+    fn answer_hex(&mut self, line: &[u8]) -> anyhow::Result<Answer> {
+        let text = line.strip_prefix(b"case-hex ").unwrap_or(b"");
+        match hex_bytes(self.heap, text)? {
+            Some(bytes) => Ok(self.set_case(bytes)),
+            None => Ok(Answer::NoHex),
+        }
+    }
+
+    /// Answers a line, with its block where it has one; `None` where the line asks for nothing.
+    fn answer(&mut self, line: &[u8], lines: &mut Lines) -> anyhow::Result<Option<Answer>> {
+        let answer = match read_command(line) {
+            Command::Pass => return Ok(None),
+            Command::Model => answer_model(read_block(lines, self.heap)?.as_slice()),
+            Command::Path => self.answer_path(line)?,
+            Command::Case => self.answer_case(read_block(lines, self.heap)?.as_slice()),
+            Command::CaseHex => self.answer_hex(line)?,
+            Command::Conditions | Command::Judge => Answer::NotYet,
+            Command::Unknown => Answer::Unknown,
+        };
+        Ok(Some(answer))
+    }
+}
+
+/// Answers `model` with its block.
+fn answer_model(text: &[u8]) -> Answer {
     match check_form(text) {
-        Ok(()) => {
-            println!(rt; "model form ok")?;
-            Ok(false)
-        }
-        Err(fault) => {
-            println!(rt; "{fault}")?;
-            Ok(fault == Fault::Memory)
-        }
-    }
-}
-
-/// Answers `path`: what stands behind the word and one space is the path.
-fn answer_path(rt: &HostRuntime, setting: &mut Setting, line: &[u8]) -> anyhow::Result<bool> {
-    setting.path.clear();
-    if line.len() > 5 {
-        setting.path.extend_from_slice(&line[5..])?;
-    }
-    println!(rt; "path set")?;
-    Ok(false)
-}
-
-/// Sets the case and answers with its size.
-fn set_case(rt: &HostRuntime, setting: &mut Setting, bytes: Vec<u8>) -> anyhow::Result<bool> {
-    println!(rt; "case set bytes {}", bytes.len())?;
-    setting.case = bytes;
-    Ok(false)
-}
-
-/// Answers `case` with its block.
-fn answer_case(rt: &HostRuntime, setting: &mut Setting, text: &[u8]) -> anyhow::Result<bool> {
-    match case_bytes(rt.alloc(), text) {
-        Ok(bytes) => set_case(rt, setting, bytes),
-        Err(fault) => {
-            println!(rt; "{fault}")?;
-            Ok(true)
-        }
-    }
-}
-
-/// Answers `case-hex`: what stands behind the word and one space is a case file in hexadecimal.
-fn answer_hex(rt: &HostRuntime, setting: &mut Setting, line: &[u8]) -> anyhow::Result<bool> {
-    let text = if line.len() > 9 { &line[9..] } else { b"" };
-    match hex_bytes(rt.alloc(), text)? {
-        Some(bytes) => set_case(rt, setting, bytes),
-        None => {
-            println!(rt; "error: no hexadecimal bytes")?;
-            Ok(true)
-        }
-    }
-}
-
-/// Answers a line of the input, with its block where it has one; says whether the answer is an error.
-fn answer(rt: &HostRuntime, setting: &mut Setting, input: &mut Input) -> anyhow::Result<bool> {
-    match read_command(input.line()) {
-        Command::Pass => Ok(false),
-        Command::Model => {
-            let block = input.block(rt.alloc())?;
-            answer_model(rt, block.as_slice())
-        }
-        Command::Path => answer_path(rt, setting, input.line()),
-        Command::Case => {
-            let block = input.block(rt.alloc())?;
-            answer_case(rt, setting, block.as_slice())
-        }
-        Command::CaseHex => answer_hex(rt, setting, input.line()),
-        Command::Conditions | Command::Judge => {
-            println!(rt; "error: not yet")?;
-            Ok(true)
-        }
-        Command::Unknown => {
-            println!(rt; "error: unknown command")?;
-            Ok(true)
-        }
+        Ok(()) => Answer::ModelOk,
+        Err(fault) => Answer::ModelFault(fault),
     }
 }
 
 fn main(rt: HostRuntime) -> anyhow::Result<()> {
     let heap = rt.alloc();
-    let mut input = Input::new(rt.stdin(), heap)?;
-    let mut setting = Setting {
+    let mut lines = lines_of(rt.stdin(), heap)?;
+    let mut bench = Bench {
+        heap,
         path: Vec::new(heap),
         case: Vec::new(heap),
     };
     let mut failed = false;
+    // The count shows that the loop ends: of lines that have ended once, as in a block, no contract says that they stay so.
     for _ in 0..u64::MAX {
-        if !input.next_line()? {
+        let Some(line) = lines.next() else {
             break;
+        };
+        if let Some(answer) = bench.answer(line?.as_slice(), &mut lines)? {
+            println!(rt; "{answer}")?;
+            failed |= answer.is_error();
         }
-        failed |= answer(&rt, &mut setting, &mut input)?;
     }
     if failed {
         return Err(anyhow!("a command was answered with an error"));

@@ -1,39 +1,33 @@
-//! The bytes of a case file from its records in the order written.
-ghost use Rattle.std.specs.Prelude.{◌≤◌, length};
+//! A case from its lines: its records in the order written, and the bytes of its file.
+ghost use Rattle.std.specs.Prelude.{◌≤◌, ◌<◌, vec_len, IfSome};
 
+use super::line::{Line, LineFault, read_line};
 use std::alloc::{AllocError, Global};
 
 /// The most records of a case file.
 pub const MOST_RECORDS: usize = 1_024;
 
-/// A record as it was written: the word of its chain's head, and its values.
+/// How many heads a case file has for tables, and how many for lists.
+const HEADS: u8 = 8;
+
+/// How many values a record has.
+const VALUES: usize = 8;
+
+/// A chain of records.
+#[derive(Clone, Copy, PartialEq, Eq)]
+pub enum Chain {
+    /// The rows of a table; tables are counted from 1.
+    Rows(u8),
+    Reads,
+    /// The numbers of a list; lists are counted from 1.
+    List(u8),
+}
+
+/// A record as it was written: its chain, and its values.
 #[derive(Clone, Copy)]
 pub struct Written {
-    pub head: usize,
+    pub chain: Chain,
     pub values: [i32; 8],
-}
-
-/// The index of the first record of a chain; 0 where it has none.
-pub(crate) fn first_of(records: &[Written], head: usize) -> usize
-    ensures { result ≤ length records.now }
-{
-    for (i, record) in records.iter().enumerate() {
-        if record.head == head {
-            return i + 1;
-        }
-    }
-    0
-}
-
-/// The index behind a record in its chain; 0 where it is the last.
-fn next_of(records: &[Written], at: usize) -> usize
-    requires { at ≤ length records.now }
-    ensures { result ≤ length records.now }
-{
-    if at + 1 < records.len() && records[at + 1].head == records[at].head {
-        return at + 2;
-    }
-    0
 }
 
 /// Adds a word, the high byte first.
@@ -41,32 +35,146 @@ fn push_word(bytes: &mut Vec<u8>, word: i32) -> Result<(), AllocError> {
     bytes.extend_from_slice(&word.to_be_bytes())
 }
 
-/// Adds the head of a file: the count of records, the heads of tables and reads, the count of lists and their heads.
-fn push_head(bytes: &mut Vec<u8>, records: &[Written], lists: u8) -> Result<(), AllocError>
-    requires { length records.now ≤ 1024 }
-{
-    push_word(bytes, records.len() as i32)?;
-    for head in 1..10 {
-        push_word(bytes, first_of(records, head) as i32)?;
-    }
-    push_word(bytes, i32::from(lists))?;
-    for head in 11..19 {
-        push_word(bytes, first_of(records, head) as i32)?;
+/// Adds words, one by one.
+fn push_words(bytes: &mut Vec<u8>, words: &[i32]) -> Result<(), AllocError> {
+    for word in words {
+        push_word(bytes, *word)?;
     }
     Ok(())
 }
 
-/// The bytes of a case file.
-pub(crate) fn file_of(heap: Global, records: &[Written], lists: u8) -> Result<Vec<u8>, AllocError>
-    requires { length records.now ≤ 1024 }
+/// Adds the word that points to a record: its index, counted from 1, or 0 for none.
+fn push_index(bytes: &mut Vec<u8>, place: Option<usize>) -> Result<(), AllocError>
+    requires { IfSome place (λ at. at < 1024) }
 {
-    let mut bytes = Vec::new(heap);
-    push_head(&mut bytes, records, lists)?;
-    for (i, record) in records.iter().enumerate() {
-        push_word(&mut bytes, next_of(records, i) as i32)?;
-        for value in &record.values {
-            push_word(&mut bytes, *value)?;
+    push_word(bytes, place.map_or(0, |at| at as i32 + 1))
+}
+
+/// A case in the making.
+#[derive(Drop)]
+pub(crate) struct Draft {
+    records: Vec<Written>,
+    /// The table of the rows that follow.
+    table: Option<u8>,
+    /// The count of lists.
+    lists: u8,
+    ghost few: { vec_len records ≤ 1024 },
+}
+
+impl Draft {
+    /// A case of no records.
+    pub(crate) fn new(heap: Global) -> Draft {
+        Draft {
+            records: Vec::new(heap),
+            table: None,
+            lists: 0,
         }
     }
-    Ok(bytes)
+
+    /// The place of the first record of a chain.
+    fn first_of(&self, chain: Chain) -> Option<usize>
+        ensures { IfSome result (λ at. at < vec_len self.now.records) }
+    {
+        self.records.iter().position(|record| record.chain == chain)
+    }
+
+    /// The place of the record behind another in its chain.
+    fn next_of(&self, at: usize) -> Option<usize>
+        requires { at < vec_len self.now.records }
+        ensures { IfSome result (λ next. next < vec_len self.now.records) }
+    {
+        let next = self.records.get(at + 1)?;
+        (next.chain == self.records[at].chain).then_some(at + 1)
+    }
+
+    /// Adds a record at the end of its chain; it has at most 8 values, and the others are 0.
+    fn add(&mut self, chain: Chain, given: &[i32]) -> Result<(), LineFault> {
+        if self.records.len() == MOST_RECORDS || given.len() > VALUES {
+            return Err(LineFault::Bad);
+        }
+        let mut values = [0; VALUES];
+        values[..given.len()].copy_from_slice(given);
+        self.records.push(Written { chain, values })?;
+        Ok(())
+    }
+
+    /// Adds a record for each number.
+    fn add_numbers(&mut self, chain: Chain, numbers: &[i32]) -> Result<(), LineFault> {
+        for number in numbers {
+            self.add(chain, &[*number])?;
+        }
+        Ok(())
+    }
+
+    /// Adds a row of the table that stands above it.
+    fn add_row(&mut self, numbers: &[i32]) -> Result<(), LineFault> {
+        let table = self.table.ok_or(LineFault::Bad)?;
+        self.add(Chain::Rows(table), numbers)
+    }
+
+    /// Refuses a chain that has records already.
+    fn check_new(&self, chain: Chain) -> Result<(), LineFault> {
+        match self.first_of(chain) {
+            None => Ok(()),
+            Some(_) => Err(LineFault::Bad),
+        }
+    }
+
+    /// Takes a line. Rows follow their table at once, so each chain's records stand side by side.
+    pub(crate) fn take_line(&mut self, line: &[u8]) -> Result<(), LineFault> {
+        match read_line(*self.records.allocator(), line)? {
+            Line::Row(numbers) => self.add_row(numbers.as_slice()),
+            Line::Table(table) => {
+                self.check_new(Chain::Rows(table))?;
+                self.table = Some(table);
+                Ok(())
+            }
+            Line::Reads(numbers) => {
+                self.check_new(Chain::Reads)?;
+                self.table = None;
+                self.add_numbers(Chain::Reads, numbers.as_slice())
+            }
+            Line::List(numbers) if self.lists < HEADS => {
+                self.lists += 1;
+                self.table = None;
+                self.add_numbers(Chain::List(self.lists), numbers.as_slice())
+            }
+            Line::List(_) => Err(LineFault::Bad),
+        }
+    }
+
+    /// Adds the heads of the chains of a kind.
+    fn push_heads<F: Fn(u8) -> Chain>(
+        &self,
+        bytes: &mut Vec<u8>,
+        chain: F,
+    ) -> Result<(), AllocError>
+        requires { F.IsAlwaysCallable chain }
+    {
+        for number in 1..=HEADS {
+            push_index(bytes, self.first_of(chain(number)))?;
+        }
+        Ok(())
+    }
+
+    /// The head of the file: the count of records, the heads of tables and reads, the count of lists and their heads.
+    fn head(&self) -> Result<Vec<u8>, AllocError> {
+        let mut bytes = Vec::new(*self.records.allocator());
+        push_word(&mut bytes, self.records.len() as i32)?;
+        self.push_heads(&mut bytes, Chain::Rows)?;
+        push_index(&mut bytes, self.first_of(Chain::Reads))?;
+        push_word(&mut bytes, i32::from(self.lists))?;
+        self.push_heads(&mut bytes, Chain::List)?;
+        Ok(bytes)
+    }
+
+    /// The bytes of the case file.
+    pub(crate) fn file(&self) -> Result<Vec<u8>, AllocError> {
+        let mut bytes = self.head()?;
+        for (at, record) in self.records.iter().enumerate() {
+            push_index(&mut bytes, self.next_of(at))?;
+            push_words(&mut bytes, &record.values)?;
+        }
+        Ok(bytes)
+    }
 }

@@ -9,37 +9,32 @@ use std::alloc::{AllocError, Global};
 fn digit_of(byte: u8) -> Option<u8>
     ensures { result ≡ digit_of byte }
 {
-    match byte {
-        b'0'..=b'9' => Some(byte - b'0'),
-        b'a'..=b'f' => Some(byte - b'a' + 10),
-        b'A'..=b'F' => Some(byte - b'A' + 10),
-        _ => None,
-    }
+    char::from(byte).to_digit(16).map(|digit| digit as u8)
 }
 
 /// The byte of two digits, the high one first.
 fn byte_of(high: u8, low: u8) -> Option<u8>
     ensures { result ≡ byte_of (digit_of high) (digit_of low) }
 {
-    match (digit_of(high), digit_of(low)) {
-        (Some(h), Some(l)) => Some(16 * h + l),
-        _ => None,
-    }
+    let high = digit_of(high)?;
+    let low = digit_of(low)?;
+    Some(16 * high + low)
 }
 
 /// The bytes that pairs of digits are; `None` where a digit is wrong or has no other.
 pub fn hex_bytes(heap: Global, text: &[u8]) -> Result<Option<Vec<u8>>, AllocError>
     ensures { IfOk result (λ o. option_map vec_items o ≡ bytes_of text.now) }
 {
+    // The crate `hex` decodes too, but takes this module's name, and its errors would have to be sorted into none and no memory.
     let mut bytes = Vec::new(heap);
-    for i in 0..text.len() / 2 {
-        match byte_of(text[2 * i], text[2 * i + 1]) {
-            Some(byte) => bytes.push(byte)?,
-            None => return Ok(None),
-        }
-    }
-    if text.len() % 2 != 0 {
-        return Ok(None);
+    for pair in text.chunks(2) {
+        let [high, low] = pair else {
+            return Ok(None);
+        };
+        let Some(byte) = byte_of(*high, *low) else {
+            return Ok(None);
+        };
+        bytes.push(byte)?;
     }
     Ok(Some(bytes))
 }

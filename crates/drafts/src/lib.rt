@@ -3,5 +3,5 @@
 
 pub mod bytes;
 pub mod hex;
-mod numbers;
+mod line;
 pub mod text;
