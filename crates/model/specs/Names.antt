@@ -1,11 +1,10 @@
 -- The names of a checked model, as parts of its own text, and the variable that a name is.
-use Rattle.std.specs.Prelude.{ℕ, zero, suc, List, take, position, Some, None, Option}
+use Rattle.std.specs.Prelude.{ℕ, zero, suc, List, take, position, None, Option}
 use Rattle.std.specs.Option.{option_map, option_flatten}
 use Rattle.std.specs.List.{slice_get}
 use Rattle.std.specs.Str.{bytes_eq}
 use Rattle.lexer.specs.declared.name.Name.{Name}
 use Rattle.lexer.specs.Names.{spelled}
-use Rattle.model.specs.declared.schema.Variable.{Variable}
 use Rattle.model.specs.declared.schema.Table.{Table}
 use Rattle.model.specs.Models.{Contents}
 

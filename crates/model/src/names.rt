@@ -27,24 +27,25 @@ impl Model {
     pub fn variable_name(&self, variable: usize) -> Option<&[u8]>
         ensures { option_map (λ x. x.now) result ≡ variable_name (contents self.now) variable }
     {
-        let found = self.variable(variable)?;
-        Some(found.name.spelling(&self.text))
+        self.variable(variable)
+            .map(|found| found.name.spelling(&self.text))
     }
 
     /// The name of a table, if there is one of that number.
     pub fn table_name(&self, table: usize) -> Option<&[u8]>
         ensures { option_map (λ x. x.now) result ≡ table_name (contents self.now) table }
     {
-        let found = self.table(table)?;
-        Some(found.title.spelling(&self.text))
+        self.table(table)
+            .map(|found| found.title.spelling(&self.text))
     }
 
     /// The name of an attribute, if there is one of that number in a table of that number.
     pub fn attribute_name(&self, table: usize, attribute: usize) -> Option<&[u8]>
         ensures { option_map (λ x. x.now) result ≡ attribute_name (contents self.now) table attribute }
     {
-        let name = self.table(table)?.field(attribute)?;
-        Some(name.spelling(&self.text))
+        self.table(table)?
+            .field(attribute)
+            .map(|name| name.spelling(&self.text))
     }
 
     /// The variable of a name.

@@ -9,6 +9,7 @@ use std::cmp::Ordering;
 pub const WIDTH: usize = 8;
 
 /// A table: its name, how many attributes it has, which of them is the key, and their names. Attributes are places from 0.
+// The names fill an array up to the width, so that a table is a plain value that is copied with the model.
 #[derive(Clone, Copy)]
 pub struct Table {
     pub title: Name,
@@ -44,7 +45,7 @@ pub struct Check {
 }
 
 /// What a variable holds.
-#[derive(Clone, Copy, PartialEq, Eq)]
+#[derive(Clone, Copy)]
 pub enum Kind {
     Integer,
     List,

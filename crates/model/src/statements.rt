@@ -13,12 +13,12 @@ fn nth_line<P: Fn(&Line) -> bool>(lines: &[Line], picked: P, n: usize) -> Option
     requires { P.IsAlwaysCallable picked }
     ensures { (p : Line → Bool) → ((l : Line) (b : Bool) → FnReturnsAt P.Fn picked l b → b ≡ p l) → result ≡ nth_line p lines.now n }
 {
-    let (place, _) = lines
+    lines
         .iter()
         .enumerate()
         .filter(|(_, line)| picked(*line))
-        .nth(n.checked_sub(1)?)?;
-    Some(place)
+        .map(|(place, _)| place)
+        .nth(n.checked_sub(1)?)
 }
 
 impl Model {
