@@ -1,5 +1,5 @@
 -- Statements counted in text order.
-use Rattle.std.specs.Prelude.{ℕ, Bool, true, false, List, count_by, Option}
+use Rattle.std.specs.Prelude.{◌≡◌, ℕ, Bool, true, false, List, count_by, Option}
 use Rattle.meaning.specs.Schema.{places}
 use Rattle.model.specs.declared.program.Line.{Line}
 use Rattle.model.specs.declared.program.Line.TheVariants.{Assign, Clear, Tail, Read, Load, Select, Next, Insert, Update, Delete, Commit, Rollback, If, While, End}
@@ -36,6 +36,10 @@ is_update _ = false
 abbrev pub is_delete : Line → Bool
 is_delete (Delete t c h) = true
 is_delete _ = false
+
+-- What is said of each line is whether p picks it.
+abbrev pub Picks : (Line → Bool → Type 0) → (Line → Bool) → Type 0
+Picks said p = (l : Line) (b : Bool) → said l b → b ≡ p l
 
 -- The place of the n-th line that p picks, counted from 1 in text order.
 abbrev pub nth_line : (Line → Bool) → List Line → ℕ → Option ℕ

@@ -3,7 +3,7 @@ ghost use Rattle.std.specs.Prelude.{◌≡◌, Bool};
 ghost use Rattle.std.specs.Fn.{FnReturnsAt};
 ghost use Rattle.model.specs.declared.program.Line.{Line};
 ghost use Rattle.model.specs.Models.{contents};
-ghost use Rattle.model.specs.Lines.{statements, is_update, is_delete, nth_line};
+ghost use Rattle.model.specs.Lines.{statements, is_update, is_delete, Picks, nth_line};
 
 use super::model::Model;
 use super::program::Line;
@@ -11,7 +11,7 @@ use super::program::Line;
 /// The place of the n-th of the lines that are picked, counted from 1.
 fn nth_line<P: Fn(&Line) -> bool>(lines: &[Line], picked: P, n: usize) -> Option<usize>
     requires { P.IsAlwaysCallable picked }
-    ensures { (p : Line → Bool) → ((l : Line) (b : Bool) → FnReturnsAt P.Fn picked l b → b ≡ p l) → result ≡ nth_line p lines.now n }
+    ensures { (p : Line → Bool) → Picks (FnReturnsAt P.Fn picked) p → result ≡ nth_line p lines.now n }
 {
     lines
         .iter()
