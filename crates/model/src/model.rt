@@ -11,7 +11,7 @@ use std::alloc::Global;
 /// A checked model: its own text, which its names are parts of, and its tables, references, checks, variables, statements and their parts,
 /// each in text order. The program is the block that begins at the first line.
 // Lines and items stand in flat lists and name one another by their places, so that a model can be copied whole and holds nothing of the text's lifetime.
-#[derive(Drop)]
+#[derive(Clone, Drop)]
 pub struct Model {
     pub text: Vec<u8>,
     pub tables: Vec<Table>,
@@ -23,19 +23,11 @@ pub struct Model {
 }
 
 impl Model {
-    /// The same model in memory of its own; only want of memory hinders it.
-    pub fn copy(&self, heap: Global) -> Result<Model, Fault>
+    /// The same model in memory of its own, from the heap that holds the model; only want of memory hinders it.
+    pub fn copy(&self, _heap: Global) -> Result<Model, Fault>
         ensures { MatchResult result (λ m. contents m ≡ contents self.now) (λ f. f ≡ Memory) }
     {
-        Ok(Model {
-            text: self.text.to_vec(heap)?,
-            tables: self.tables.to_vec(heap)?,
-            references: self.references.to_vec(heap)?,
-            checks: self.checks.to_vec(heap)?,
-            variables: self.variables.to_vec(heap)?,
-            lines: self.lines.to_vec(heap)?,
-            items: self.items.to_vec(heap)?,
-        })
+        Ok(self.clone()?)
     }
 
     /// How many tables it has.
