@@ -1,6 +1,8 @@
 -- Loops over the elements of a list: one element on, an early exit, and the end. Assumes nothing.
-use Rattle.std.proofs.Common.{◌≡◌, ℕ, zero, suc, ◌+◌, ◌<◌, ◌≤◌, Bool, true, false, cond, not, ◌&&◌, ◌||◌, List, [], ◌∷◌, ◌++◌, map, length, get_or, take, drop, ℤ, sym, refl, ap, ◌∙◌, ap₂, append_assoc, append-nil, add-one, arith}
+use Rattle.std.proofs.Common.{◌≡◌, ℕ, suc, ◌+◌, ◌<◌, ◌≤◌, Bool, true, false, cond, not, ◌&&◌, ◌||◌, List, [], ◌∷◌, ◌++◌, map, length, get_or, take, drop, ℤ, sym, refl, ap, ◌∙◌, ap₂, append_assoc, append-nil, add-one, arith}
 use mathlib.Core.Option.{Option, none, some}
+use Rattle.std.proofs.lemmas.Grind.{common_steps}
+use Rattle.std.proofs.Math.Bool.{or_assoc}
 use Rattle.std.proofs.lemmas.List.{at_drop_more, at_drop_all, take_more, take_all}
 use Rattle.meaning.specs.Values.{bind, is_some, any, all, compares, eq_z}
 use Rattle.meaning.specs.Schema.{Schema, key_of, ref_at, check_at, places, up_from}
@@ -152,14 +154,10 @@ module _ {A : Type 0} (c : A → Option Bool) (xs : List A) (i : ℕ) where
       ∙ ap₂ (λ ys zs. ys ++ unchosen c zs) (sym (front xs i (drop (i + 1) xs) lt)) (sym (back xs i (drop (i + 1) xs) lt))
     where
       front : (xs : List A) (i : ℕ) (ys : List A) → i < length xs → take i (take i xs ++ ys) ≡ take i xs
-      front [] i ys h = absurd (omega arith)
-      front (x ∷ xs) zero ys h = refl
-      front (x ∷ xs) (suc i) ys h = ap (λ l. x ∷ l) (front xs i ys (omega arith))
+      front xs i ys h = grind (arith, common_steps)
 
       back : (xs : List A) (i : ℕ) (ys : List A) → i < length xs → drop i (take i xs ++ ys) ≡ ys
-      back [] i ys h = absurd (omega arith)
-      back (x ∷ xs) zero ys h = refl
-      back (x ∷ xs) (suc i) ys h = back xs i ys (omega arith)
+      back xs i ys h = grind (arith, common_steps)
 
   -- there is none left
   pub unchosen_end : length xs ≤ i → take i xs ++ unchosen c (drop i xs) ≡ xs
@@ -195,13 +193,9 @@ module _ (key from : ℕ) (U : Table) (c : Row → Option Bool) (T : Table) (i :
       held_sofar h (holds_one key from U c (drop i T)) ≡ held_sofar (h || (b && has from U (attr (get_or T i []) key))) (holds_one key from U c (drop (i + 1) T))
   held_next b lt e = held_at (some b) lt e ∙ glue h (b && has from U (attr (get_or T i []) key)) (holds_one key from U c (drop (i + 1) T))
     where
-      or_assoc : (a b c : Bool) → (a || (b || c)) ≡ ((a || b) || c)
-      or_assoc true b c = refl
-      or_assoc false b c = refl
-
       glue : (h x : Bool) (k : Option Bool) → held_sofar h (bind k (λ r. some (x || r))) ≡ held_sofar (h || x) k
       glue h x none = refl
-      glue h x (some r) = ap some (or_assoc h x r)
+      glue h x (some r) = ap some (sym (or_assoc h x r))
 
   pub held_end : length T ≤ i → held_sofar h (holds_one key from U c (drop i T)) ≡ some h
   held_end g = at_drop_all (λ X. held_sofar h (holds_one key from U c X)) T i g ∙ over h

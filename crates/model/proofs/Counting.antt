@@ -1,40 +1,17 @@
--- Statements counted one by one.
-use Rattle.std.proofs.Common.{◌≡◌, ℕ, zero, suc, ◌+◌, ◌-◌, ◌<◌, ◌≤◌, Bool, true, false, cond, List, ◌∷◌, length, get_or, drop, None, sym, refl, ap, ◌∙◌, add-one, arith}
-use Rattle.std.proofs.lemmas.List.{drop_all, at_drop_more}
-use Rattle.std.proofs.lemmas.Bool.{cond-true, cond-false}
+-- Places of the lines that are picked.
+use Rattle.std.proofs.Common.{◌≡◌, ℕ, zero, suc, ◌-◌, ◌≤◌, Bool, List, [], ◌∷◌, map, filter, Option, refl, ap, sym, ◌∙◌, arith}
+use Rattle.std.specs.List.{enumerate_from, slice_get}
+use Rattle.std.specs.Option.{option_map}
+use Rattle.std.proofs.lemmas.Iterator.Adapters.{option_map_id}
 use Rattle.meaning.specs.Schema.{places}
-use Rattle.model.specs.declared.program.Line.{Line}
 use Rattle.model.specs.Names.{by_number}
-use Rattle.model.specs.Lines.{is_statement, statements}
 
-pub statements_more : (ls : List Line) (i : ℕ) (d : Line) → i < length ls → statements (drop i ls) ≡ cond (is_statement (get_or ls i d)) (suc (statements (drop (i + 1) ls))) (statements (drop (i + 1) ls))
-statements_more ls i d h = at_drop_more statements ls i d h
+-- The numbers of those that are picked, each beside its number, are their places.
+pub places-picked : {X : Type 0} (p : X → Bool) (n : ℕ) (xs : List X) → map (λ e. e.0) (filter (λ e. p e.1) (enumerate_from n xs)) ≡ places p n xs
+places-picked p n [] = refl
+places-picked p n (x ∷ xs) = let behind = places-picked p (suc n) xs in grind arith
 
-pub statements_all : (ls : List Line) (i : ℕ) → length ls ≤ i → statements (drop i ls) ≡ 0
-statements_all ls i h = ap statements (drop_all i ls h)
-
-module _ {X : Type 0} (p : X → Bool) where
-  -- The places of those that p picks, from a place on.
-  abbrev pub from : List X → ℕ → List ℕ
-  from xs i = places p i (drop i xs)
-
-  from_more : (xs : List X) (i : ℕ) (d : X) → i < length xs → from xs i ≡ cond (p (get_or xs i d)) (i ∷ from xs (i + 1)) (from xs (i + 1))
-  from_more xs i d h =
-      at_drop_more (places p i) xs i d h
-      ∙ ap (λ n. cond (p (get_or xs i d)) (i ∷ places p n (drop (i + 1) xs)) (places p n (drop (i + 1) xs))) (sym (add-one i))
-
-  pub from_passed : (xs : List X) (i : ℕ) (d : X) → i < length xs → p (get_or xs i d) ≡ false → from xs i ≡ from xs (i + 1)
-  from_passed xs i d h left = from_more xs i d h ∙ cond-false _ _ _ left
-
-  pub from_picked : (xs : List X) (i : ℕ) (d : X) → i < length xs → p (get_or xs i d) ≡ true → from xs i ≡ i ∷ from xs (i + 1)
-  from_picked xs i d h taken = from_more xs i d h ∙ cond-true _ _ _ taken
-
-  pub from_all : (xs : List X) (i n : ℕ) → length xs ≤ i → by_number (from xs i) n ≡ None
-  from_all xs i zero h = refl
-  from_all xs i (suc n) h = ap (λ ys. by_number (places p i ys) (suc n)) (drop_all i xs h)
-
--- Behind the first, one fewer is left.
-pub one_fewer : {X : Type 0} (x : X) (xs : List X) (n : ℕ) → 0 < n → (n ≡ 1 → ⊥) → by_number (x ∷ xs) n ≡ by_number xs (n - 1)
-one_fewer x xs zero h ne = absurd (omega arith)
-one_fewer x xs (suc zero) h ne = absurd (ne refl)
-one_fewer x xs (suc (suc n)) h ne = let less : suc (suc n) - 1 ≡ suc n = omega arith in ap (by_number xs) (sym less)
+-- The element of a number that is not 0.
+pub numbered : {X : Type 0} (r : Option X) (xs : List X) (n m : ℕ) → 1 ≤ n → m ≡ n - 1 → option_map (λ x. x) r ≡ slice_get xs m → r ≡ by_number xs n
+numbered r xs zero m some less found = absurd (omega arith)
+numbered r xs (suc n) m some less found = sym (option_map_id r) ∙ found ∙ ap (slice_get xs) (let is : m ≡ n = omega (arith, less) in is)

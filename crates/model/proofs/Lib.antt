@@ -1,5 +1,4 @@
 pub mod Reading
 pub mod Mapping
 pub mod Working
-pub mod Naming
 pub mod Counting

@@ -1,5 +1,6 @@
 -- Reading at one worth and taking the answer to another is reading at the other.
-use Rattle.std.proofs.Common.{◌≡◌, suc, Bool, true, false, cond, ltb, List, [], ◌∷◌, map, length, Some, None, Option, sym, refl, ap, ◌∙◌}
+use Rattle.std.proofs.Common.{◌≡◌, Bool, true, false, cond, ltb, List, [], ◌∷◌, map, length, Some, None, Option, sym, refl, ap, ◌∙◌}
+use Rattle.std.proofs.lemmas.List.{length-map}
 use Rattle.model.specs.declared.program.Operator.{Operator}
 use Rattle.model.specs.declared.program.Item.{Item}
 use Rattle.model.specs.declared.program.Item.TheVariants.{Open, Close, Sign, Number, Integer, Attribute, Head, Cell, Truth, Nil}
@@ -22,10 +23,6 @@ module _ {V W : Type 0} (v : Worth V) (w : Worth W) (f : V → W) (maps : Maps v
   abbrev map_state : State V → State W
   map_state s = at (map map_bracket s.brackets) (f s.hand)
 
-  map_length : (bs : List (Bracket V)) → length (map map_bracket bs) ≡ length bs
-  map_length [] = refl
-  map_length (b ∷ bs) = ap suc (map_length bs)
-
   map_cond : (b : Bool) (s t : State V) → map_state (cond b s t) ≡ cond b (map_state s) (map_state t)
   map_cond true s t = refl
   map_cond false s t = refl
@@ -33,7 +30,7 @@ module _ {V W : Type 0} (v : Worth V) (w : Worth W) (f : V → W) (maps : Maps v
   map_opened : (bs : List (Bracket V)) → map_state (opened v bs) ≡ opened w (map map_bracket bs)
   map_opened bs =
       map_cond (ltb (length bs) 12) _ _
-      ∙ (λ i. cond (ltb (sym (map_length bs) i) 12) (at (record { sign = None; left = maps.blank i } ∷ map map_bracket bs) (maps.blank i)) (at [] (maps.blank i)))
+      ∙ (λ i. cond (ltb (sym (length-map bs map_bracket) i) 12) (at (record { sign = None; left = maps.blank i } ∷ map map_bracket bs) (maps.blank i)) (at [] (maps.blank i)))
 
   map_signed : (bs : List (Bracket V)) (h : V) (o : Operator) → map_state (signed v bs h o) ≡ signed w (map map_bracket bs) (f h) o
   map_signed [] h o = refl

@@ -1,13 +1,13 @@
 -- The model that a checked model stands for.
 use Rattle.std.specs.Prelude.{ℕ, List, map, pos, vec_items}
+use Rattle.std.specs.declared.cmp.Ordering.{Ordering}
+use Rattle.std.specs.declared.cmp.Ordering.TheVariants.{Less, Equal, Greater}
 use Rattle.meaning.specs.Values as values
 use Rattle.meaning.specs.Schema as meaning
 use Rattle.model.specs.declared.schema.Table.{Table}
 use Rattle.model.specs.declared.schema.Reference.{Reference}
 use Rattle.model.specs.declared.schema.Check.{Check}
 use Rattle.model.specs.declared.schema.Variable.{Variable}
-use Rattle.model.specs.declared.schema.Order.{Order}
-use Rattle.model.specs.declared.schema.Order.TheVariants.{Less, Equal, More}
 use Rattle.model.specs.declared.program.Item.{Item}
 use Rattle.model.specs.declared.program.Line.{Line}
 use Rattle.model.specs.declared.model.Model.{Model}
@@ -26,10 +26,10 @@ pub record Contents : Type 0 where
 abbrev pub contents : Model → Contents
 contents m = record { text = vec_items m.text; tables = vec_items m.tables; references = vec_items m.references; checks = vec_items m.checks; variables = vec_items m.variables; lines = vec_items m.lines; items = vec_items m.items }
 
-abbrev pub order_of : Order → values.Order
+abbrev pub order_of : Ordering → values.Order
 order_of Less = values.less
 order_of Equal = values.same
-order_of More = values.more
+order_of Greater = values.more
 
 abbrev pub shape_of : Table → meaning.Shape
 shape_of t = record { width = t.width; key = t.key }

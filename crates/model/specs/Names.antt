@@ -1,10 +1,10 @@
 -- The names of a checked model, as parts of its own text, and the variable that a name is.
-use Rattle.std.specs.Prelude.{ℕ, zero, suc, ◌-◌, cond, List, [], ◌∷◌, take, drop, Some, None, Option}
+use Rattle.std.specs.Prelude.{ℕ, zero, suc, List, take, position, None, Option}
 use Rattle.std.specs.Option.{option_map, option_flatten}
 use Rattle.std.specs.List.{slice_get}
 use Rattle.std.specs.Str.{bytes_eq}
-use Rattle.model.specs.declared.schema.Name.{Name}
-use Rattle.model.specs.declared.schema.Variable.{Variable}
+use Rattle.lexer.specs.declared.name.Name.{Name}
+use Rattle.lexer.specs.Names.{spelled}
 use Rattle.model.specs.declared.schema.Table.{Table}
 use Rattle.model.specs.Models.{Contents}
 
@@ -13,17 +13,13 @@ abbrev pub by_number : {X : Type 0} → List X → ℕ → Option X
 by_number xs zero = None
 by_number xs (suc n) = slice_get xs n
 
--- The bytes of a name: those of the text from its place up to its end.
-abbrev pub part : List ℕ → Name → List ℕ
-part text n = take (n.end - n.place) (drop n.place text)
-
 -- The name of a variable, counted from 0.
 abbrev pub variable_name : Contents → ℕ → Option (List ℕ)
-variable_name m v = option_map (λ x. part m.text x.name) (slice_get m.variables v)
+variable_name m v = option_map (λ x. spelled m.text x.name) (slice_get m.variables v)
 
 -- The name of a table, counted from 1.
 abbrev pub table_name : Contents → ℕ → Option (List ℕ)
-table_name m t = option_map (λ x. part m.text x.title) (by_number m.tables t)
+table_name m t = option_map (λ x. spelled m.text x.title) (by_number m.tables t)
 
 -- The name of an attribute of a table, counted from 0, where the table has it.
 abbrev pub field_of : ℕ → Table → Option Name
@@ -31,13 +27,8 @@ field_of k t = slice_get (take t.width t.fields) k
 
 -- The name of an attribute of a table, counted from 1.
 abbrev pub attribute_name : Contents → ℕ → ℕ → Option (List ℕ)
-attribute_name m t k = option_map (part m.text) (option_flatten (option_map (field_of k) (by_number m.tables t)))
+attribute_name m t k = option_map (spelled m.text) (option_flatten (option_map (field_of k) (by_number m.tables t)))
 
--- The number, counted on from n, of the first variable of a name.
-abbrev pub named_from : List ℕ → List ℕ → ℕ → List Variable → Option ℕ
-named_from text name n [] = None
-named_from text name n (v ∷ vs) = cond (bytes_eq (part text v.name) name) (Some n) (named_from text name (suc n) vs)
-
--- The variable of a name.
+-- The first variable of a name.
 abbrev pub variable_named : Contents → List ℕ → Option ℕ
-variable_named m name = named_from m.text name 0 m.variables
+variable_named m name = position (λ v. bytes_eq (spelled m.text v.name) name) m.variables

@@ -10,7 +10,8 @@ use std::alloc::Global;
 
 /// A checked model: its own text, which its names are parts of, and its tables, references, checks, variables, statements and their parts,
 /// each in text order. The program is the block that begins at the first line.
-#[derive(Drop)]
+// Lines and items stand in flat lists and name one another by their places, so that a model can be copied whole and holds nothing of the text's lifetime.
+#[derive(Clone, Drop)]
 pub struct Model {
     pub text: Vec<u8>,
     pub tables: Vec<Table>,
@@ -21,31 +22,12 @@ pub struct Model {
     pub items: Vec<Item>,
 }
 
-/// The same elements in memory of their own.
-fn copied<T: Copy>(heap: Global, elements: &[T]) -> Result<Vec<T>, Fault>
-    ensures { MatchResult result (λ v. v.items ≡ elements.now) (λ f. f ≡ Memory) }
-{
-    let mut copy = Vec::new(heap);
-    for element in elements {
-        copy.push(*element)?;
-    }
-    Ok(copy)
-}
-
 impl Model {
-    /// The same model in memory of its own; only want of memory hinders it.
-    pub fn copy(&self, heap: Global) -> Result<Model, Fault>
+    /// The same model in memory of its own, from the heap that holds the model; only want of memory hinders it.
+    pub fn copy(&self, _heap: Global) -> Result<Model, Fault>
         ensures { MatchResult result (λ m. contents m ≡ contents self.now) (λ f. f ≡ Memory) }
     {
-        Ok(Model {
-            text: copied(heap, self.text.as_slice())?,
-            tables: copied(heap, self.tables.as_slice())?,
-            references: copied(heap, self.references.as_slice())?,
-            checks: copied(heap, self.checks.as_slice())?,
-            variables: copied(heap, self.variables.as_slice())?,
-            lines: copied(heap, self.lines.as_slice())?,
-            items: copied(heap, self.items.as_slice())?,
-        })
+        Ok(self.clone()?)
     }
 
     /// How many tables it has.
