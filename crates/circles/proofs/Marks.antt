@@ -52,10 +52,6 @@ free marks = sum_by open_one marks
 pub free_set : (marks : List Bool) (i : ℕ) → i < length marks → get_or marks i false ≡ false → free (set marks i true) + 1 ≡ free marks
 free_set marks i h e = omega (arith, sum_by-set open_one marks i true false h, ap open_one e)
 
--- With no link nothing new is marked.
-pub marked_none : (tables a : ℕ) (marks : List Bool) → Marked tables [] a marks marks
-marked_none tables a marks = record { kept = λ t h. h; more = λ t s. absurd s.1; only = λ t h. inl h }
-
 step_more : (tables : ℕ) (links : List Link) (a t : ℕ) (l : Link) → Step tables links a t → Step tables (links ++ l ∷ []) a t
 step_more tables links a t l s = (s.0, in_left s.0 links (l ∷ []) s.1, s.2, s.3)
 

@@ -7,7 +7,7 @@ use Rattle.faults.specs.declared.Fault.TheVariants.{NoToken}
 use Rattle.classes.specs.Bytes.{is_blank, class_of}
 use Rattle.classes.specs.declared.Class.{Class}
 use Rattle.classes.specs.declared.Class.TheVariants.{Other, Blank, Letter, Digit, Sign, Twin}
-use Rattle.lexer.specs.declared.runs.Run.TheVariants.{Blanks, Word, Digits}
+use Rattle.lexer.specs.Runs.{Blanks, Word, Digits}
 use Rattle.lexer.specs.Runs.{goes_on, reach_of}
 use Rattle.lexer.specs.Signs.{sign_of, twin_of}
 use Rattle.lexer.specs.Numbers.{number_of}

@@ -3,7 +3,7 @@ use Rattle.std.proofs.Common.{◌≡◌, ℕ, suc, Bool, true, false, not, ◌&&
 use Rattle.std.specs.List.{prefix_len}
 use Rattle.std.proofs.lemmas.List.{take_at, drop_at}
 use Rattle.std.proofs.lemmas.Bool.{cond-true, cond-false}
-use Rattle.lexer.specs.declared.runs.Run.{Run}
+use Rattle.lexer.specs.Runs.{Run}
 use Rattle.lexer.specs.Runs.{goes, reach_of}
 
 -- All of some bytes go on with a run.

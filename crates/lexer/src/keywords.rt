@@ -131,12 +131,10 @@ pub fn same(a: &[u8], b: &[u8]) -> bool
 fn first_spelled(word: &[u8], keywords: &[Keyword]) -> Option<Keyword>
     ensures { result ≡ first_spelled word.now keywords.now }
 {
-    for k in keywords {
-        if same(word, spelling(*k)) {
-            return Some(*k);
-        }
-    }
-    None
+    keywords
+        .iter()
+        .copied()
+        .find(|keyword| word == spelling(*keyword))
 }
 
 /// The keyword that a word is, if it is one.

@@ -1,23 +1,21 @@
-use Rattle.std.proofs.Common.{sym, ap, ◌∙◌}
+use Rattle.std.proofs.Common.{◌≡◌, rules, List, ℕ, [], ◌∷◌, cond, Some, refl, ap, sym, ◌∙◌}
+use borrow.Author.Tests.{tests}
 use Rattle.std.specs.Str.{bytes_eq}
-use Rattle.std.proofs.lemmas.Bool.{cond-true, cond-false}
-use Rattle.std.proofs.lemmas.List.{drop_all}
-use Rattle.lexer.specs.Keywords.{first_spelled}
-use Rattle.lexer.specs.declared.keywords.Keyword.TheVariants.{Model}
-use Rattle.lexer.proofs.Steps.{spelled_more}
+use Rattle.std.specs.List.{find}
+use Rattle.std.proofs.lemmas.Iterator.{YieldsList-from_slice}
+use Rattle.std.proofs.lemmas.Iterator.Adapters.{option_map_id}
+use Rattle.std.proofs.lemmas.Iterator.Consumers.{YieldsList-from_copied, YieldsList-at}
+use Rattle.std.proofs.lemmas.Iterator.Search.{find_from_yields_List}
+use Rattle.lexer.specs.declared.keywords.Keyword.{Keyword}
+use Rattle.lexer.specs.Keywords.{spell, first_spelled}
 use Rattle.lexer.proofs.keywords.first_spelled.Goals as goal
 
-pub returns-then-same : goal.returns-then-same
-returns-then-same c =
-    let more = spelled_more c.args.word.now c.args.keywords.now c.loop-k.k-index Model c.loop-k-test.true in
-    let is = ap (bytes_eq c.args.word.now) (sym c.spelling.ensures) ∙ sym c.if-same.ensures in
-    sym (sym c.loop-k.invariant ∙ more ∙ cond-true _ _ _ is)
-
-pub loop-k-preserved : goal.loop-k-preserved
-loop-k-preserved c =
-    let more = spelled_more c.args.word.now c.args.keywords.now c.loop-k.k-index Model c.loop-k-test.true in
-    let is = ap (bytes_eq c.args.word.now) (sym c.spelling.ensures) ∙ sym c.if-same.ensures in
-    sym (sym c.loop-k.invariant ∙ more ∙ cond-false _ _ _ is)
+-- The first keyword that passes is the first that is written so.
+first_passes : (w : List ℕ) (ks : List Keyword) → find (λ k. bytes_eq w (spell k)) ks ≡ first_spelled w ks
+first_passes w [] = refl
+first_passes w (k ∷ ks) = ap (cond (bytes_eq w (spell k)) (Some k)) (first_passes w ks)
 
 pub returns : goal.returns
-returns c = ap (first_spelled c.args.word.now) (sym (drop_all c.loop-k.k-index c.args.keywords.now c.loop-k-test.false)) ∙ c.loop-k.invariant
+returns c =
+    let found = find_from_yields_List (λ k. bytes_eq c.args.word.now (spell k)) _ _ c.find.result c.find.ensures.ran (YieldsList-from_copied (YieldsList-at c.copied.ensures.source (YieldsList-from_slice c.args.keywords.now cc))) (λ x b q k. (search (rules, tests), search (rules, tests))) in
+    sym (option_map_id c.find.result) ∙ found ∙ first_passes c.args.word.now c.args.keywords.now
