@@ -1,4 +1,5 @@
-use Rattle.std.proofs.Common.{rules, ◌≡◌, codes, true, false, sym, ◌∙◌, arith}
+use Rattle.std.proofs.Common.{rules, ◌≡◌, codes, eqb, take, true, false, sym, ◌∙◌, arith}
+use Rattle.std.specs.Cmp.Lexicographic.{pointwise}
 use Rattle.std.proofs.lemmas.Slice.Eq.{text_from_reads}
 use borrow.Author.Tests.{ltb-true}
 use Rattle.std.proofs.lemmas.Bool.{ltb-false}
@@ -46,13 +47,17 @@ passed_words c = elim c.in_default.branch [
 pub returns-in_default-2 : goal.returns-in_default-2
 returns-in_default-2 c =
     let line = c.args.line.now in
-    let path = begins_is (codes "path ") line c.starts_with.result c.starts_with.ensures.value in
-    let hex = begins_is (codes "case-hex ") line c.starts_with-2.result c.starts_with-2.ensures.value in
+    let is_path : c.starts_with.result ≡ pointwise eqb (codes "path ") (take 5 line) = search rules in
+    let is_hex : c.starts_with-2.result ≡ pointwise eqb (codes "case-hex ") (take 9 line) = search rules in
+    let path = begins_is (codes "path ") line c.starts_with.result is_path in
+    let hex = begins_is (codes "case-hex ") line c.starts_with-2.result is_hex in
     sym (other_line line false true (passed_words (goal.at.returns-in_default-2 c).In_default) (sym c.if-starts_with.false ∙ path) (sym c.if-starts_with-2.true ∙ hex))
 
 pub returns-in_default-3 : goal.returns-in_default-3
 returns-in_default-3 c =
     let line = c.args.line.now in
-    let path = begins_is (codes "path ") line c.starts_with.result c.starts_with.ensures.value in
-    let hex = begins_is (codes "case-hex ") line c.starts_with-2.result c.starts_with-2.ensures.value in
+    let is_path : c.starts_with.result ≡ pointwise eqb (codes "path ") (take 5 line) = search rules in
+    let is_hex : c.starts_with-2.result ≡ pointwise eqb (codes "case-hex ") (take 9 line) = search rules in
+    let path = begins_is (codes "path ") line c.starts_with.result is_path in
+    let hex = begins_is (codes "case-hex ") line c.starts_with-2.result is_hex in
     sym (other_line line false false (passed_words (goal.at.returns-in_default-3 c).In_default) (sym c.if-starts_with.false ∙ path) (sym c.if-starts_with-2.false ∙ hex))
