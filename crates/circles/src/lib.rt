@@ -1,10 +1,11 @@
 //! Which table is the first that leads back to itself by one or more references.
 #![tactic(auto)]
 
-ghost use Rattle.std.specs.Prelude.{◌≡◌, ℕ, ◌<◌, ◌≤◌, true, false, Some, None, MatchBool, slice_index_or, slice_set};
+ghost use Rattle.std.specs.Prelude.{◌≡◌, ℕ, ◌<◌, ◌≤◌, true, false, Some, None, MatchBool, slice_set};
+ghost use Rattle.circles.specs.declared.Mark.TheVariants.{Taken};
 ghost use Rattle.circles.specs.Circles.{OnCircle, NoCircle, First, Answers};
 ghost use Rattle.circles.specs.Ways.{IsTable, Leads, Follows};
-ghost use Rattle.circles.specs.Visits.{Marked, Waits};
+ghost use Rattle.circles.specs.Visits.{Marked, Waits, reached_of, taken_of};
 
 /// The most tables that a schema has.
 pub const TABLES: usize = 8;
@@ -12,8 +13,19 @@ pub const TABLES: usize = 8;
 /// The numbers from 0 to the last table's.
 const NUMBERS: usize = 9;
 
+/// What is known of a table on the way from a start.
+#[derive(Clone, Copy, PartialEq, Eq)]
+enum Mark {
+    /// No link was seen that leads to it.
+    Unseen,
+    /// It is reached, and its links are still to be followed.
+    Reached,
+    /// It is reached, and its links were followed.
+    Taken,
+}
+
 /// A mark for each number, of which 0 is no table's.
-type Marks = [bool; NUMBERS];
+type Marks = [Mark; NUMBERS];
 
 /// A reference of one table to another; tables are counted from 1.
 #[derive(Clone, Copy, Drop)]
@@ -22,58 +34,63 @@ pub struct Link {
     pub to: usize,
 }
 
-/// Whether a number is a table's.
-fn is_table(tables: usize, number: usize) -> bool
-    ensures { MatchBool result (IsTable tables number) (IsTable tables number → ⊥) }
-{
-    0 < number && number <= tables && number <= TABLES
+/// The count of a schema's tables, and the links between them.
+#[derive(Clone, Copy)]
+struct Schema<'a> {
+    tables: usize,
+    links: &'a [Link],
 }
 
-/// Whether a link leads on from a table, and both its ends are tables.
-fn follows(tables: usize, table: usize, link: Link) -> bool
-    ensures { MatchBool result (Follows tables table link) (Follows tables table link → ⊥) }
-{
-    link.from == table && is_table(tables, link.from) && is_table(tables, link.to)
-}
+impl<'a> Schema<'a> {
+    /// Whether a number is a table's.
+    fn has(&self, number: usize) -> bool
+        ensures { MatchBool result (IsTable self.now.tables number) (IsTable self.now.tables number → ⊥) }
+    {
+        0 < number && number <= self.tables && number <= TABLES
+    }
 
-/// Takes up a table, which was not taken up before: marks each table that one link leads to from it.
-fn take_up(tables: usize, links: &[Link], table: usize, reached: &mut Marks, taken: &mut Marks)
-    requires { (table < 9) × (slice_index_or taken.old table false ≡ false) }
-    ensures marks { Marked tables links.now table reached.old reached.new }
-    ensures takes { taken.new ≡ slice_set taken.old table true }
-{
-    taken[table] = true;
-    for link in links {
-        if follows(tables, table, *link) {
-            reached[link.to] = true;
+    /// Whether a link leads on from a table, and both its ends are tables.
+    fn follows(&self, table: usize, link: Link) -> bool
+        ensures { MatchBool result (Follows self.now.tables table link) (Follows self.now.tables table link → ⊥) }
+    {
+        link.from == table && self.has(link.from) && self.has(link.to)
+    }
+
+    /// Marks each table that one link leads to from a table.
+    fn mark_ends(&self, table: usize, marks: &mut Marks)
+        ensures reached { Marked self.now.tables self.now.links.now table (reached_of marks.old) (reached_of marks.new) }
+        ensures taken { taken_of marks.new ≡ taken_of marks.old }
+    {
+        for link in self.links {
+            if self.follows(table, *link) && marks[link.to] == Mark::Unseen {
+                marks[link.to] = Mark::Reached;
+            }
         }
+    }
+
+    /// Whether one or more links lead from a table back to it. No table is taken up twice.
+    fn leads_back(&self, start: usize) -> bool
+        requires { start ≤ 8 }
+        ensures { MatchBool result (Leads self.now.tables self.now.links.now start start) (Leads self.now.tables self.now.links.now start start → ⊥) }
+    {
+        let mut marks = [Mark::Unseen; NUMBERS];
+        self.mark_ends(start, &mut marks);
+        while let Some(table) = waiting(&marks) {
+            if table == start {
+                return true;
+            }
+            marks[table] = Mark::Taken;
+            self.mark_ends(table, &mut marks);
+        }
+        false
     }
 }
 
 /// The first table still to be visited: reached, and not yet taken up.
-fn waiting(reached: &Marks, taken: &Marks) -> Option<usize>
-    ensures { Waits reached.now taken.now result }
+fn waiting(marks: &Marks) -> Option<usize>
+    ensures { Waits (reached_of marks.now) (taken_of marks.now) result }
 {
-    for table in 0..NUMBERS {
-        if reached[table] && !taken[table] {
-            return Some(table);
-        }
-    }
-    None
-}
-
-/// Whether one or more links lead from a table back to it. No table is taken up twice.
-fn leads_back(tables: usize, links: &[Link], start: usize) -> bool
-    requires { start ≤ 8 }
-    ensures { MatchBool result (Leads tables links.now start start) (Leads tables links.now start start → ⊥) }
-{
-    let mut reached = [false; NUMBERS];
-    let mut taken = [false; NUMBERS];
-    take_up(tables, links, start, &mut reached, &mut taken);
-    while let Some(table) = waiting(&reached, &taken) {
-        take_up(tables, links, table, &mut reached, &mut taken);
-    }
-    reached[start]
+    marks.iter().position(|mark| *mark == Mark::Reached)
 }
 
 /// The first table that leads back to itself by one or more links, if one does.
@@ -84,11 +101,7 @@ pub fn first_on_circle(tables: usize, links: &[Link]) -> Option<usize>
     ensures none { NoCircle tables links.now → result ≡ None }
     ensures itself { (t : ℕ) → result ≡ Some t → OnCircle tables links.now t }
 {
+    let schema = Schema { tables, links };
     let last = tables.min(TABLES);
-    for table in 1..=last {
-        if leads_back(tables, links, table) {
-            return Some(table);
-        }
-    }
-    None
+    (1..=last).find(|table| schema.leads_back(*table))
 }

@@ -1,12 +1,12 @@
 -- A token found at the front parts the bytes there, and stands there before any other rest that does not go on with it.
-use Rattle.std.proofs.Common.{◌≡◌, ℕ, ◌<◌, ◌≤◌, Bool, true, false, cond, not, eqb, List, [], ◌∷◌, ◌++◌, length, get_or, take, Some, None, Ok, Err, Option, sym, refl, ap, ◌∙◌, subst, arith, length-append}
+use Rattle.std.proofs.Common.{◌≡◌, ℕ, ◌<◌, Bool, true, false, cond, not, eqb, List, [], ◌∷◌, ◌++◌, length, get_or, take, Some, None, Ok, Err, Option, sym, refl, ap, ◌∙◌, subst, arith}
 use Rattle.std.proofs.lemmas.Bool.{cond-true}
 use Rattle.faults.specs.declared.Fault.TheVariants.{NoToken}
 use Rattle.classes.specs.Bytes.{class_of}
 use Rattle.classes.specs.declared.Class.{Class}
 use Rattle.classes.specs.declared.Class.TheVariants.{Other, Blank, Letter, Digit, Sign, Twin}
-use Rattle.lexer.specs.declared.runs.Run.{Run}
-use Rattle.lexer.specs.declared.runs.Run.TheVariants.{Word, Digits}
+use Rattle.lexer.specs.Runs.{Run}
+use Rattle.lexer.specs.Runs.{Word, Digits}
 use Rattle.lexer.specs.declared.keywords.Keyword.{Keyword}
 use Rattle.lexer.specs.declared.signs.Sign.{Sign as Mark}
 use Rattle.lexer.specs.Runs.{goes_on, goes, reach_of}
@@ -161,10 +161,7 @@ unfolding front_token
 front_before [] rest place t is e h = absurd (never h)
 front_before (b ∷ w) rest place t is e h = class_before (class_of b) b w rest place t is e h
 
--- A token has at least one byte, and no more than the bytes that it was found in.
-pub front_size : (s : List ℕ) (place : ℕ) (t : Lexeme) → front_token s place ≡ Ok t → length t.bytes ≤ length s
-front_size s place t h = let f = front_found s place t h in omega (arith, simp length-append at (ap length f.whole))
-
+-- A token has at least one byte.
 pub token_some : (w : List ℕ) (place : ℕ) (t : Lexeme) → front_token w place ≡ Ok t → 0 < length w
 unfolding front_token
 token_some [] place t h = absurd (never h)

@@ -7,7 +7,7 @@ use Rattle.faults.specs.declared.Fault.TheVariants.{NoToken, Memory}
 use Rattle.classes.specs.Bytes.{is_blank, is_letter, is_digit, is_sign, is_twin, class_of}
 use Rattle.classes.specs.declared.Class.{Class}
 use Rattle.classes.specs.declared.Class.TheVariants.{Other, Blank, Letter, Digit, Sign, Twin}
-use Rattle.lexer.specs.declared.runs.Run.TheVariants.{Blanks, Digits}
+use Rattle.lexer.specs.Runs.{Blanks, Digits}
 use Rattle.lexer.specs.Runs.{goes_on, goes, reach_of}
 use Rattle.lexer.specs.Tokens.{sign, Lexeme, lexeme, after}
 use Rattle.lexer.specs.Numbers.{number_of}

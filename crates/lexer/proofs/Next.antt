@@ -3,7 +3,7 @@ use Rattle.std.proofs.Common.{◌≡◌, ℕ, ◌+◌, ◌-◌, ◌<◌, ◌≤�
 use Rattle.std.proofs.lemmas.List.{take_rest, drop_all, drop-drop}
 use Rattle.classes.specs.Bytes.{class_of}
 use Rattle.classes.specs.declared.Class.{Class}
-use Rattle.lexer.specs.declared.runs.Run.TheVariants.{Blanks}
+use Rattle.lexer.specs.Runs.{Blanks}
 use Rattle.lexer.specs.Runs.{reach_of}
 use Rattle.lexer.specs.Lexing.{class_token, front_token, found, or_end, next_from, next_token}
 

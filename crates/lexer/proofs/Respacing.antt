@@ -1,20 +1,20 @@
 -- Blanks between tokens do not matter.
-use Rattle.std.proofs.Common.{◌≡◌, ℕ, ◌+◌, Bool, true, false, cond, not, eqb, List, [], ◌∷◌, ◌++◌, map, length, get_or, take, drop, Some, None, Ok, Err, Option, Result, sym, refl, ap, ◌∙◌, subst, arith}
+use Rattle.std.proofs.Common.{◌≡◌, ℕ, ◌+◌, Bool, true, false, cond, not, eqb, List, [], ◌∷◌, ◌++◌, map, length, get_or, take, drop, Some, None, Ok, Err, Option, Result, sym, refl, ap, ◌∙◌, subst}
 use Rattle.std.proofs.lemmas.List.{drop_at}
-use Rattle.std.proofs.lemmas.Bool.{cond-true}
+use Rattle.std.proofs.lemmas.Bool.{cond-true, true≢false, and_parts}
 use Rattle.faults.specs.declared.Fault.{Fault}
 use Rattle.faults.specs.declared.Fault.TheVariants.{NoToken}
 use Rattle.classes.specs.Bytes.{is_blank, class_of}
 use Rattle.classes.specs.declared.Class.{Class}
 use Rattle.classes.specs.declared.Class.TheVariants.{Other, Blank, Letter, Digit, Sign, Twin}
-use Rattle.lexer.specs.declared.runs.Run.TheVariants.{Blanks, Word, Digits}
+use Rattle.lexer.specs.Runs.{Blanks, Word, Digits}
 use Rattle.lexer.specs.Runs.{goes_on, reach_of}
 use Rattle.lexer.specs.Signs.{sign_of, twin_of}
 use Rattle.lexer.specs.Numbers.{number_of}
 use Rattle.lexer.specs.Tokens.{Kind, name, number, keyword, sign, Lexeme, lexeme, after}
 use Rattle.lexer.specs.Lexing.{word_token, number_token, class_token, front_token}
 use Rattle.lexer.specs.Layout.{blank, extends, maximal, Laid, apart, Respaced, unplaced}
-use Rattle.lexer.proofs.Splits.{reach_glued, and_first}
+use Rattle.lexer.proofs.Splits.{reach_glued}
 use Rattle.lexer.proofs.Found.{never}
 use Rattle.lexer.proofs.Laws.{every_blank, token_solid}
 
@@ -61,17 +61,14 @@ apart_maximal : (kind : Kind) (s : List ℕ) → apart s ≡ true → maximal ki
 apart_maximal kind [] h = refl
 apart_maximal kind (b ∷ s) h = ap not (extends_blank kind b h)
 
-differ : true ≡ false → ⊥
-differ h = let z : ◌≡◌ {A = ℕ} 0 1 = cc in omega arith
-
 -- Blanks that do not part are none.
 no_gap : (s gap back : List ℕ) → s ≡ gap ++ back → blank gap ≡ true → apart s ≡ false → s ≡ back
 no_gap s [] back w b h = w
-no_gap s (x ∷ gap) back w b h = absurd (differ (sym (and_first (is_blank x) (blank gap) b) ∙ ap apart (sym w) ∙ h))
+no_gap s (x ∷ gap) back w b h = absurd (true≢false (sym (and_parts (is_blank x) (blank gap) b).0 ∙ ap apart (sym w) ∙ h))
 
 not_blank : (s : List ℕ) → blank s ≡ true → apart s ≡ false → ⊥
-not_blank [] b h = differ h
-not_blank (x ∷ s) b h = differ (sym (and_first (is_blank x) (blank s) b) ∙ h)
+not_blank [] b h = true≢false h
+not_blank (x ∷ s) b h = true≢false (sym (and_parts (is_blank x) (blank s) b).0 ∙ h)
 
 -- What follows a token's first bytes does not tell whether those go on with the token before.
 same_first : (kind : Kind) (w r r' : List ℕ) (place : ℕ) (t : Lexeme) → front_token w place ≡ Ok t → maximal kind (w ++ r) ≡ maximal kind (w ++ r')
@@ -96,7 +93,7 @@ unparted kind s s' at (t ∷ ts) h h' l r =
 
 still_maximal : (v v' : Bool) (kind : Kind) (s s' : List ℕ) (at : ℕ) (ts : List Lexeme) → apart s ≡ v → apart s' ≡ v' → (apart s ≡ true → apart s' ≡ true) → maximal kind s ≡ true → Laid s at ts → Respaced s s' ts → maximal kind s' ≡ true
 still_maximal v true kind s s' at ts h h' parted m l r = apart_maximal kind s' h'
-still_maximal true false kind s s' at ts h h' parted m l r = absurd (differ (sym (parted h) ∙ h'))
+still_maximal true false kind s s' at ts h h' parted m l r = absurd (true≢false (sym (parted h) ∙ h'))
 still_maximal false false kind s s' at ts h h' parted m l r = sym (unparted kind s s' at ts h h' l r) ∙ m
 
 -- Two texts that differ only in the blanks between tokens have the same tokens.

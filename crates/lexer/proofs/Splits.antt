@@ -1,9 +1,9 @@
 -- The longest run at the front parts some bytes in two, and so does a token.
-use Rattle.std.proofs.Common.{◌≡◌, ℕ, suc, Bool, true, false, not, ◌&&◌, List, [], ◌∷◌, ◌++◌, length, take, drop, sym, refl, ap, ◌∙◌, append-nil, one-add, arith}
+use Rattle.std.proofs.Common.{◌≡◌, ℕ, suc, Bool, true, false, not, ◌&&◌, List, [], ◌∷◌, ◌++◌, length, take, drop, sym, refl, ap, ◌∙◌, append-nil, one-add}
 use Rattle.std.specs.List.{prefix_len}
 use Rattle.std.proofs.lemmas.List.{take_at, drop_at}
-use Rattle.std.proofs.lemmas.Bool.{cond-true, cond-false}
-use Rattle.lexer.specs.declared.runs.Run.{Run}
+use Rattle.std.proofs.lemmas.Bool.{cond-true, cond-false, and_from, and_parts}
+use Rattle.lexer.specs.Runs.{Run}
 use Rattle.lexer.specs.Runs.{goes, reach_of}
 
 -- All of some bytes go on with a run.
@@ -15,17 +15,6 @@ every run (b ∷ s) = goes run b && every run s
 abbrev pub stopped : Run → List ℕ → Bool
 stopped run [] = true
 stopped run (b ∷ s) = not (goes run b)
-
-and_both : (a b : Bool) → a ≡ true → b ≡ true → (a && b) ≡ true
-and_both a b p q = rw (p, q)
-
-pub and_first : (a b : Bool) → (a && b) ≡ true → a ≡ true
-and_first true b h = refl
-and_first false b h = h
-
-and_second : (a b : Bool) → (a && b) ≡ true → b ≡ true
-and_second true b h = h
-and_second false b h = let z : ◌≡◌ {A = ℕ} 0 1 = cc in absurd (omega arith)
 
 reach_yes : (run : Run) (b : ℕ) (s : List ℕ) → goes run b ≡ true → reach_of run (b ∷ s) ≡ suc (reach_of run s)
 unfolding reach_of
@@ -43,8 +32,8 @@ reach_glued run [] (b ∷ back) e s =
     let no : goes run b ≡ false = elim (goes run b) as (λ v. not v ≡ true → v ≡ false) [ true ↦ λ h. sym h | false ↦ λ h. refl ] s in
     reach_no run b back no
 reach_glued run (b ∷ front) back e s =
-    reach_yes run b (front ++ back) (and_first (goes run b) (every run front) e)
-    ∙ ap suc (reach_glued run front back (and_second (goes run b) (every run front) e) s)
+    reach_yes run b (front ++ back) (and_parts (goes run b) (every run front) e).0
+    ∙ ap suc (reach_glued run front back (and_parts (goes run b) (every run front) e).1 s)
 
 -- The longest run at the front, and the rest.
 pub record Split (run : Run) (s : List ℕ) : Type 0 where
@@ -72,7 +61,7 @@ made_split run s front back w a e =
     }
 
 split_more : (run : Run) (b : ℕ) (s : List ℕ) → Split run s → (v : Bool) → goes run b ≡ v → Split run (b ∷ s)
-split_more run b s p true g = made_split run (b ∷ s) (b ∷ p.front) p.back (ap (λ r. b ∷ r) p.whole) (and_both _ _ g p.all) p.ends
+split_more run b s p true g = made_split run (b ∷ s) (b ∷ p.front) p.back (ap (λ r. b ∷ r) p.whole) (and_from _ _ g p.all) p.ends
 split_more run b s p false g = made_split run (b ∷ s) [] (b ∷ s) refl refl (ap not g)
 
 pub split : (run : Run) (s : List ℕ) → Split run s

@@ -1,35 +1,14 @@
--- The steps of the loops over a run, over the keywords and over the digits.
-use Rattle.std.proofs.Common.{◌≡◌, ℕ, zero, suc, ◌+◌, ◌<◌, ◌≤◌, true, false, cond, List, [], ◌∷◌, length, get_or, take, drop, Some, fold, sym, ap, ◌∙◌, le_refl, add-one, arith, drop-cons}
-use Rattle.std.specs.Str.{bytes_eq}
-use Rattle.std.proofs.lemmas.List.Sums.{prefix_len-drop_yes, prefix_len-drop_no, prefix_len-drop_all, prefix_len-le-length, fold_more}
-use Rattle.lexer.specs.declared.keywords.Keyword.{Keyword}
-use Rattle.lexer.specs.declared.runs.Run.{Run}
-use Rattle.lexer.specs.Runs.{goes, reach_of}
-use Rattle.lexer.specs.Keywords.{spell, first_spelled}
-use Rattle.lexer.specs.Numbers.{with_digit, value_of}
-
--- One byte of the run is passed.
-pub reach_more : (run : Run) (bytes : List ℕ) (i : ℕ) → i < length bytes → goes run (get_or bytes i 0) ≡ true → i + reach_of run (drop i bytes) ≡ (i + 1) + reach_of run (drop (i + 1) bytes)
-unfolding reach_of
-reach_more run bytes i h g = omega (arith, prefix_len-drop_yes (goes run) bytes i 0 h g)
-
--- The run ends before a byte that does not go on with it.
-pub reach_stop : (run : Run) (bytes : List ℕ) (i : ℕ) → i < length bytes → goes run (get_or bytes i 0) ≡ false → i + reach_of run (drop i bytes) ≡ i
-unfolding reach_of
-reach_stop run bytes i h g = omega (arith, prefix_len-drop_no (goes run) bytes i 0 h g)
-
--- The run ends with the bytes.
-pub reach_end : (run : Run) (bytes : List ℕ) (i : ℕ) → length bytes ≤ i → i + reach_of run (drop i bytes) ≡ i
-unfolding reach_of
-reach_end run bytes i h = omega (arith, prefix_len-drop_all (goes run) bytes i h)
-
-pub reach_within : (run : Run) (bytes : List ℕ) → reach_of run bytes ≤ length bytes
-unfolding reach_of
-reach_within run bytes = prefix_len-le-length (goes run) bytes
-
--- One keyword is passed.
-pub spelled_more : (w : List ℕ) (ks : List Keyword) (i : ℕ) (d : Keyword) → i < length ks → first_spelled w (drop i ks) ≡ cond (bytes_eq w (spell (get_or ks i d))) (Some (get_or ks i d)) (first_spelled w (drop (i + 1) ks))
-spelled_more w ks i d h = ap (first_spelled w) (drop-cons ks i d h) ∙ ap (λ n. cond (bytes_eq w (spell (get_or ks i d))) (Some (get_or ks i d)) (first_spelled w (drop n ks))) (sym (add-one i))
+-- The value of digits one by one, and the tests of a class that the code makes.
+use Rattle.std.proofs.Common.{◌≡◌, ℕ, zero, suc, ◌+◌, ◌<◌, ◌≤◌, List, [], ◌∷◌, length, get_or, take, Some, None, Option, ⊎_elim, fold, sym, refl, ◌∙◌, le_refl, arith}
+use Rattle.std.proofs.lemmas.List.Sums.{fold_more}
+use denote.Enum.Bare.{sameb}
+use Rattle.classes.specs.contracts.Class.{the_type}
+use Rattle.classes.specs.declared.Class.{Class}
+use Rattle.classes.specs.declared.Class.TheVariants.{Other, Blank, Letter, Digit, Sign, Twin}
+use Rattle.lexer.specs.Runs.{Blanks, Digits, goes_on}
+use Rattle.std.proofs.lemmas.Bool.{cond-true, cond-false, le-leb, lt-leb, cases_lt}
+use Rattle.std.proofs.lemmas.Option.{none-some}
+use Rattle.lexer.specs.Numbers.{with_digit, in_range, value_of}
 
 -- Digits never make a number smaller.
 folded_grows : (n : ℕ) (ds : List ℕ) → n ≤ fold with_digit n ds
@@ -49,3 +28,37 @@ value_front ds i = front_below 0 ds i
 pub value_more : (ds : List ℕ) (i : ℕ) → i < length ds → value_of (take (i + 1) ds) ≡ with_digit (value_of (take i ds)) (get_or ds i 0)
 unfolding value_of
 value_more ds i h = fold_more with_digit 0 ds i 0 h
+
+-- A test of a class, as the code makes it, is whether the class goes on with a run.
+pub digits_test : (k : Class) → sameb the_type k Digit ≡ goes_on Digits k
+digits_test Other = refl
+digits_test Blank = refl
+digits_test Letter = refl
+digits_test Digit = refl
+digits_test Sign = refl
+digits_test Twin = refl
+
+pub blanks_test : (k : Class) → sameb the_type k Blank ≡ goes_on Blanks k
+blanks_test Other = refl
+blanks_test Blank = refl
+blanks_test Letter = refl
+blanks_test Digit = refl
+blanks_test Sign = refl
+blanks_test Twin = refl
+
+-- Which numbers are in range.
+pub in_range_fits : (n : ℕ) → n ≤ 1000000000 → in_range n ≡ Some n
+in_range_fits n h = cond-true _ _ _ (le-leb n 1000000000 h)
+
+pub in_range_past : (n : ℕ) → 1000000000 < n → in_range n ≡ None
+in_range_past n h = cond-false _ _ _ (lt-leb n 1000000000 h)
+
+pub in_range_some : (n m : ℕ) → in_range n ≡ Some m → (n ≤ 1000000000) × (m ≡ n)
+in_range_some n m h =
+    ⊎_elim
+    (λ past. absurd (none-some m (sym (in_range_past n past) ∙ h)))
+    (λ fits. let e : ◌≡◌ {A = Option ℕ} (Some m) (Some n) = sym h ∙ in_range_fits n fits in (fits, cc))
+    (cases_lt 1000000000 n)
+
+pub in_range_none : (n : ℕ) → in_range n ≡ None → 1000000000 < n
+in_range_none n h = ⊎_elim (λ past. past) (λ fits. absurd (none-some n (sym h ∙ in_range_fits n fits))) (cases_lt 1000000000 n)

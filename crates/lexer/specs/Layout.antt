@@ -4,7 +4,7 @@ use Rattle.std.specs.List.{between}
 use Rattle.faults.specs.declared.Fault.{Fault}
 use Rattle.faults.specs.declared.Fault.TheVariants.{ModelTooLong, NoToken, Memory}
 use Rattle.classes.specs.Bytes.{is_blank}
-use Rattle.lexer.specs.declared.runs.Run.TheVariants.{Word, Digits}
+use Rattle.lexer.specs.Runs.{Word, Digits}
 use Rattle.lexer.specs.Runs.{goes}
 use Rattle.lexer.specs.Tokens.{Kind, name, number, keyword, sign, Lexeme, lexeme, after}
 use Rattle.lexer.specs.Lexing.{front_token, next_token}

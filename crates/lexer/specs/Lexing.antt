@@ -5,7 +5,7 @@ use Rattle.faults.specs.declared.Fault.TheVariants.{NoToken}
 use Rattle.classes.specs.Bytes.{class_of}
 use Rattle.classes.specs.declared.Class.{Class}
 use Rattle.classes.specs.declared.Class.TheVariants.{Other, Blank, Letter, Digit, Sign, Twin}
-use Rattle.lexer.specs.declared.runs.Run.TheVariants.{Blanks, Word, Digits}
+use Rattle.lexer.specs.Runs.{Blanks, Word, Digits}
 use Rattle.lexer.specs.declared.keywords.Keyword.{Keyword}
 use Rattle.lexer.specs.Runs.{reach_of}
 use Rattle.lexer.specs.Keywords.{keyword_of}

@@ -4,8 +4,12 @@ use Rattle.std.specs.List.{prefix_len}
 use Rattle.classes.specs.Bytes.{class_of}
 use Rattle.classes.specs.declared.Class.{Class}
 use Rattle.classes.specs.declared.Class.TheVariants.{Other, Blank, Letter, Digit, Sign, Twin}
-use Rattle.lexer.specs.declared.runs.Run.{Run}
-use Rattle.lexer.specs.declared.runs.Run.TheVariants.{Blanks, Word, Digits}
+
+-- What a run is made of.
+pub data Run : Type 0 where
+  Blanks : Run
+  Word : Run
+  Digits : Run
 
 -- Blanks go on over blanks, a word over letters and digits, and digits over digits.
 abbrev pub goes_on : Run → Class → Bool

@@ -1,7 +1,7 @@
 //! The words that are no names.
 ghost use Rattle.std.specs.Prelude.{◌≡◌};
 ghost use Rattle.std.specs.Str.{bytes_eq};
-ghost use Rattle.lexer.specs.Keywords.{spell, first_spelled, keyword_of};
+ghost use Rattle.lexer.specs.Keywords.{spell, keyword_of};
 
 #[derive(Clone, Copy, PartialEq, Eq)]
 pub enum Keyword {
@@ -127,21 +127,14 @@ pub fn same(a: &[u8], b: &[u8]) -> bool
     a == b
 }
 
-/// The first of some keywords that is written as a word.
-fn first_spelled(word: &[u8], keywords: &[Keyword]) -> Option<Keyword>
-    ensures { result ≡ first_spelled word.now keywords.now }
-{
-    for k in keywords {
-        if same(word, spelling(*k)) {
-            return Some(*k);
-        }
-    }
-    None
-}
+// No TryFrom: a word that is no keyword is a name and no error, so an Option says it all.
 
 /// The keyword that a word is, if it is one.
 pub(crate) fn keyword_of(word: &[u8]) -> Option<Keyword>
     ensures { result ≡ keyword_of word.now }
 {
-    first_spelled(word, &KEYWORDS)
+    KEYWORDS
+        .iter()
+        .copied()
+        .find(|keyword| word == spelling(*keyword))
 }

@@ -1,38 +1,19 @@
 //! Runs of bytes of one sort.
-ghost use Rattle.std.specs.Prelude.{◌≡◌, ◌≤◌, length};
-ghost use Rattle.lexer.specs.Runs.{goes_on, reach_of};
+ghost use Rattle.std.specs.Prelude.{◌≡◌, ◌≤◌, Bool, length};
+ghost use Rattle.std.specs.List.{prefix_len};
+ghost use Rattle.classes.specs.Bytes.{class_of};
+ghost use Rattle.classes.specs.declared.Class.{Class};
 
 use classes::{Class, class_of};
 
-/// What a run is made of.
-#[derive(Clone, Copy)]
-pub(crate) enum Run {
-    Blanks,
-    Word,
-    Digits,
-}
-
-/// Whether a byte of this class goes on with a run.
-fn goes_on(run: Run, class: Class) -> bool
-    ensures { result ≡ goes_on run class }
-{
-    match (run, class) {
-        (Run::Blanks, Class::Blank) => true,
-        (Run::Word, Class::Letter | Class::Digit) => true,
-        (Run::Digits, Class::Digit) => true,
-        _ => false,
-    }
-}
-
-/// How many bytes at the front the longest run takes.
-pub(crate) fn reach(run: Run, bytes: &[u8]) -> usize
+/// How many bytes at the front the longest run takes of bytes whose class goes on with it.
+pub(crate) fn reach<F: Fn(Class) -> bool>(bytes: &[u8], goes_on: F) -> usize
+    requires { F.IsAlwaysCallable goes_on }
     ensures within { result ≤ length bytes.now }
-    ensures value { result ≡ reach_of run bytes.now }
+    ensures value { (test : Class → Bool) → ((c : Class) (r : Bool) → F.post goes_on c r → r ≡ test c) → result ≡ prefix_len (λ b. test (class_of b)) bytes.now }
 {
-    for (i, byte) in bytes.iter().enumerate() {
-        if !goes_on(run, class_of(*byte)) {
-            return i;
-        }
-    }
-    bytes.len()
+    bytes
+        .iter()
+        .take_while(|byte| goes_on(class_of(**byte)))
+        .count()
 }

@@ -21,6 +21,8 @@ pub enum Sign {
     Or,
 }
 
+// No TryFrom for these two: the class has chosen the byte, so a refusal could never come.
+
 /// The sign that a byte of the class of signs stands for.
 pub(crate) fn sign_of(byte: u8) -> Sign
     ensures { result ≡ sign_of byte }

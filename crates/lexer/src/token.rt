@@ -1,7 +1,6 @@
 //! The token at a place of a model text.
 ghost use Rattle.std.specs.Prelude.{◌≡◌, ◌+◌, ◌<◌, ◌≤◌, length, take, drop, IfSome, IfOk, Ok};
-ghost use Rattle.lexer.specs.declared.runs.Run.TheVariants.{Word, Digits};
-ghost use Rattle.lexer.specs.Runs.{reach_of};
+ghost use Rattle.lexer.specs.Runs.{Word, Digits, reach_of};
 ghost use Rattle.lexer.specs.Numbers.{number_of};
 ghost use Rattle.lexer.specs.Layout.{Advances};
 ghost use Rattle.lexer.specs.Tokens.{lexeme_of, front_read, next_read, after};
@@ -9,7 +8,7 @@ ghost use Rattle.lexer.specs.Lexing.{word_token, number_token, twin_token, front
 
 use super::keywords::{Keyword, keyword_of};
 use super::numbers::read_number;
-use super::runs::{Run, reach};
+use super::runs::reach;
 use super::signs::{Sign, sign_of, twin_of};
 use classes::{Class, class_of};
 use faults::Fault;
@@ -37,84 +36,76 @@ impl<'a> Token<'a> {
         ensures place { result.place ≡ (lexeme_of self.entry).place }
     {
         match self {
-            Token::Name(part) => part,
-            Token::Number(part, _) => part,
-            Token::Keyword(part, _) => part,
-            Token::Sign(part, _) => part,
+            Token::Name(part)
+            | Token::Number(part, _)
+            | Token::Keyword(part, _)
+            | Token::Sign(part, _) => part,
         }
     }
 }
 
-/// The word at the front of some bytes: a keyword or a name.
-fn word_token<'a>(rest: &'a [u8], place: usize) -> Token<'a>
-    ensures { lexeme_of result ≡ word_token (take (reach_of Word rest.now) rest.now) place }
-{
-    let bytes = &rest[0..reach(Run::Word, rest)];
-    let part = Part { bytes, place };
-    match keyword_of(bytes) {
-        Some(keyword) => Token::Keyword(part, keyword),
-        None => Token::Name(part),
+impl<'a> Part<'a> {
+    /// The first bytes of the part.
+    fn front(self, count: usize) -> Part<'a>
+        requires { count ≤ length self.bytes.now }
+        ensures bytes { result.bytes.now ≡ take count self.entry.bytes.now }
+        ensures place { result.place ≡ self.entry.place }
+    {
+        Part {
+            bytes: &self.bytes[..count],
+            place: self.place,
+        }
     }
-}
 
-/// The number at the front of some bytes, all of the digits there.
-fn number_token<'a>(rest: &'a [u8], place: usize) -> Result<Token<'a>, Fault>
-    ensures { front_read result ≡ number_token (number_of (take (reach_of Digits rest.now) rest.now)) (take (reach_of Digits rest.now) rest.now) place }
-{
-    let bytes = &rest[0..reach(Run::Digits, rest)];
-    match read_number(bytes) {
-        Some(n) => Ok(Token::Number(Part { bytes, place }, n)),
-        None => Err(Fault::NoToken { place }),
-    }
-}
-
-/// The sign of two equal bytes at the front of some bytes.
-fn twin_token<'a>(rest: &'a [u8], place: usize) -> Result<Token<'a>, Fault>
-    ensures { front_read result ≡ twin_token rest.now place }
-{
-    if rest.len() >= 2 && rest[0] == rest[1] {
-        let sign = twin_of(rest[0]);
-        return Ok(Token::Sign(
-            Part {
-                bytes: &rest[0..2],
-                place,
-            },
-            sign,
+    /// The word at the front: a keyword or a name.
+    fn word(self) -> Token<'a>
+        ensures { lexeme_of result ≡ word_token (take (reach_of Word self.entry.bytes.now) self.entry.bytes.now) self.entry.place }
+    {
+        let word = self.front(reach(
+            self.bytes,
+            |class| matches!(class, Class::Letter | Class::Digit),
         ));
-    }
-    Err(Fault::NoToken { place })
-}
-
-/// The token at the front of some bytes, which begin with no blank.
-fn front_token<'a>(rest: &'a [u8], place: usize) -> Result<Token<'a>, Fault>
-    requires { 0 < length rest.now }
-    ensures { front_read result ≡ front_token rest.now place }
-{
-    match class_of(rest[0]) {
-        Class::Letter => Ok(word_token(rest, place)),
-        Class::Digit => number_token(rest, place),
-        Class::Sign => {
-            let sign = sign_of(rest[0]);
-            Ok(Token::Sign(
-                Part {
-                    bytes: &rest[0..1],
-                    place,
-                },
-                sign,
-            ))
+        match keyword_of(word.bytes) {
+            Some(keyword) => Token::Keyword(word, keyword),
+            None => Token::Name(word),
         }
-        Class::Twin => twin_token(rest, place),
-        Class::Blank | Class::Other => Err(Fault::NoToken { place }),
     }
-}
 
-/// A token found at a place of a text, with the place after it.
-fn with_end<'a>(text: &[u8], place: usize, token: Token<'a>) -> (Token<'a>, usize)
-    requires { front_token (drop place text.now) place ≡ Ok (lexeme_of token) }
-    ensures token { lexeme_of result.0 ≡ lexeme_of token.entry }
-    ensures end { result.1 ≡ after (lexeme_of token.entry) }
-{
-    (token, place + token.part().bytes.len())
+    /// The number at the front, all of the digits there.
+    fn number(self) -> Result<Token<'a>, Fault>
+        ensures { front_read result ≡ number_token (number_of (take (reach_of Digits self.entry.bytes.now) self.entry.bytes.now)) (take (reach_of Digits self.entry.bytes.now) self.entry.bytes.now) self.entry.place }
+    {
+        let digits = self.front(reach(self.bytes, |class| class == Class::Digit));
+        match read_number(digits.bytes) {
+            Some(number) => Ok(Token::Number(digits, number)),
+            None => Err(Fault::NoToken { place: self.place }),
+        }
+    }
+
+    /// The sign of two equal bytes at the front.
+    fn twin(self) -> Result<Token<'a>, Fault>
+        ensures { front_read result ≡ twin_token self.entry.bytes.now self.entry.place }
+    {
+        match self.bytes {
+            [a, b, ..] if a == b => Ok(Token::Sign(self.front(2), twin_of(*a))),
+            _ => Err(Fault::NoToken { place: self.place }),
+        }
+    }
+
+    /// The token at the front of a part that begins with no blank.
+    fn token(self) -> Result<Token<'a>, Fault>
+        requires { 0 < length self.bytes.now }
+        ensures { front_read result ≡ front_token self.entry.bytes.now self.entry.place }
+    {
+        let first = self.bytes[0];
+        match class_of(first) {
+            Class::Letter => Ok(self.word()),
+            Class::Digit => self.number(),
+            Class::Sign => Ok(Token::Sign(self.front(1), sign_of(first))),
+            Class::Twin => self.twin(),
+            Class::Blank | Class::Other => Err(Fault::NoToken { place: self.place }),
+        }
+    }
 }
 
 /// The next token from a place on, past the blanks there, and the place after it; or `None` where the text has ended.
@@ -125,10 +116,15 @@ pub fn next_token<'a>(text: &'a [u8], at: usize) -> Result<Option<(Token<'a>, us
     if at >= text.len() {
         return Ok(None);
     }
-    let place = at + reach(Run::Blanks, &text[at..]);
+    let place = at + reach(&text[at..], |class| class == Class::Blank);
     if place >= text.len() {
         return Ok(None);
     }
-    let token = front_token(&text[place..], place)?;
-    Ok(Some(with_end(text, place, token)))
+    let rest = Part {
+        bytes: &text[place..],
+        place,
+    };
+    let token = rest.token()?;
+    let end = place + token.part().bytes.len();
+    Ok(Some((token, end)))
 }

@@ -30,6 +30,7 @@ pub fn tokens<'a>(heap: Global, text: &'a [u8]) -> Result<Vec<Token<'a>>, Fault>
     check_length(text)?;
     let mut found = Vec::new(heap);
     let mut at = 0;
+    // A loop, since an iterator would keep the same place in a struct of its own and be no plainer.
     while let Some((token, end)) = next_token(text, at)? {
         found.push(token)?;
         at = end;

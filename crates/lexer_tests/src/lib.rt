@@ -5,19 +5,19 @@ use faults::Fault;
 use lexer::token::Token;
 use lexer::tokens::tokens;
 use std::alloc::Global;
+use std::fmt::Write;
 
 /// The tokens of a text: a letter for the kind, then the place; a number with its value.
 pub fn outline(heap: Global, text: &[u8]) -> Result<String, Fault> {
     let mut out = String::new(heap);
     for token in tokens(heap, text)? {
         let place = token.part().place;
-        let word = match token {
-            Token::Name(_) => format!(in heap; "n{place} ")?,
-            Token::Number(_, value) => format!(in heap; "{value}@{place} ")?,
-            Token::Keyword(_, _) => format!(in heap; "k{place} ")?,
-            Token::Sign(_, _) => format!(in heap; "s{place} ")?,
-        };
-        out.push_str(word.as_str())?;
+        match token {
+            Token::Name(_) => write!(out, "n{place} ")?,
+            Token::Number(_, value) => write!(out, "{value}@{place} ")?,
+            Token::Keyword(_, _) => write!(out, "k{place} ")?,
+            Token::Sign(_, _) => write!(out, "s{place} ")?,
+        }
     }
     Ok(out)
 }

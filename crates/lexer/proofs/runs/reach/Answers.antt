@@ -1,17 +1,13 @@
-use Rattle.std.proofs.Common.{sym, ap, ◌∙◌, arith}
-use Rattle.lexer.specs.Runs.{goes_on}
-use Rattle.lexer.proofs.Steps.{reach_more, reach_stop, reach_end}
+use Rattle.std.proofs.Common.{rules, ◌∙◌}
+use borrow.Author.Tests.{tests}
+use Rattle.classes.specs.Bytes.{class_of}
+use Rattle.std.proofs.lemmas.Iterator.{YieldsList-from_slice}
+use Rattle.std.proofs.lemmas.Iterator.Consumers.{count_from_yields_List, YieldsList-at}
+use Rattle.std.proofs.lemmas.Iterator.Search.{YieldsList-from_take_while}
+use Rattle.std.proofs.lemmas.List.Folds.{length-prefix_len}
 use Rattle.lexer.proofs.runs.reach.Goals as goal
 
-pub returns-then-not-goes_on : goal.returns-then-not-goes_on
-returns-then-not-goes_on c =
-    let stops = ap (goes_on c.args.run) (sym c.class_of.ensures) ∙ sym c.if-not-goes_on.ensures in
-    record { within = omega arith; value = omega (arith, reach_stop c.args.run c.args.bytes.now c.loop-i.i c.loop-i-test.true stops) }
-
-pub loop-i-preserved : goal.loop-i-preserved
-loop-i-preserved c =
-    let goes = ap (goes_on c.args.run) (sym c.class_of.ensures) ∙ sym c.if-not-goes_on.ensures in
-    sym (reach_more c.args.run c.args.bytes.now c.loop-i.i c.loop-i-test.true goes) ∙ c.loop-i.invariant
-
-pub returns : goal.returns
-returns c = record { within = omega arith; value = omega (arith, reach_end c.args.run c.args.bytes.now c.loop-i.i c.loop-i-test.false) }
+pub returns-clause-value : goal.returns-clause-value
+returns-clause-value g c = λ test computes.
+    let n = count_from_yields_List c.take_while.result c.count.result c.count.ensures.ran (YieldsList-from_take_while _ (λ b. test (class_of b)) (YieldsList-at c.take_while.ensures.source (YieldsList-from_slice c.args.bytes.now cc)) c.take_while.ensures.closure c.take_while.ensures.done (λ x b q k. (search (rules, tests), search (rules, tests, computes)))) in
+    n ∙ length-prefix_len (λ b. test (class_of b)) c.args.bytes.now
