@@ -5,7 +5,7 @@ ghost use Rattle.syntax.specs.Clauses.{term_end, where_at, element_at, element_b
 use faults::Fault;
 use lexer::keywords::Keyword;
 use lexer::signs::Sign;
-use terms::pull::{Word, expect_keyword, expect_name, expect_sign, is_keyword, is_sign, pull};
+use terms::pull::{Word, expect, pull};
 use terms::terms::{Want, read_term};
 
 /// How many brackets may be open in a term, one in another.
@@ -23,7 +23,7 @@ pub(crate) fn term_end(text: &[u8], want: Want, at: usize) -> Result<usize, Faul
 fn where_end(text: &[u8], at: usize) -> Result<usize, Fault>
     ensures { result ≡ where_at text.now at }
 {
-    let at = expect_keyword(text, Keyword::Where, at)?;
+    let at = expect(text, Keyword::Where, at)?;
     term_end(text, Want::Truth, at)
 }
 
@@ -39,7 +39,7 @@ fn element_end(text: &[u8], element: Element, at: usize) -> Result<usize, Fault>
     ensures { result ≡ element_at text.now element at }
 {
     match element {
-        Element::Attribute => expect_name(text, at),
+        Element::Attribute => expect(text, Word::Name, at),
         Element::Value => term_end(text, Want::Value, at),
     }
 }
@@ -49,7 +49,7 @@ fn element_behind(text: &[u8], element: Element, at: usize) -> Result<Option<usi
     ensures { result ≡ element_behind text.now element at }
 {
     match pull(text, at) {
-        Ok(p) if is_sign(p.word, Sign::Comma) => Ok(Some(element_end(text, element, p.end)?)),
+        Ok(p) if p.word == Word::Sign(Sign::Comma) => Ok(Some(element_end(text, element, p.end)?)),
         _ => Ok(None),
     }
 }
@@ -72,31 +72,31 @@ fn list_end(text: &[u8], element: Element, at: usize) -> Result<usize, Fault>
 pub(crate) fn argument_end(text: &[u8], at: usize) -> Result<usize, Fault>
     ensures { result ≡ argument_at text.now at }
 {
-    let at = expect_sign(text, Sign::Open, at)?;
-    let at = expect_name(text, at)?;
-    expect_sign(text, Sign::Close, at)
+    let at = expect(text, Sign::Open, at)?;
+    let at = expect(text, Word::Name, at)?;
+    expect(text, Sign::Close, at)
 }
 
 /// The place behind INSERT, from INTO on.
 fn insert_end(text: &[u8], at: usize) -> Result<usize, Fault>
     ensures { result ≡ insert_rest text.now at }
 {
-    let at = expect_keyword(text, Keyword::Into, at)?;
-    let at = expect_name(text, at)?;
-    let at = expect_keyword(text, Keyword::Values, at)?;
-    let at = expect_sign(text, Sign::Open, at)?;
+    let at = expect(text, Keyword::Into, at)?;
+    let at = expect(text, Word::Name, at)?;
+    let at = expect(text, Keyword::Values, at)?;
+    let at = expect(text, Sign::Open, at)?;
     let at = list_end(text, Element::Value, at)?;
-    expect_sign(text, Sign::Close, at)
+    expect(text, Sign::Close, at)
 }
 
 /// The place behind UPDATE, from its table on.
 fn update_end(text: &[u8], at: usize) -> Result<usize, Fault>
     ensures { result ≡ update_rest text.now at }
 {
-    let at = expect_name(text, at)?;
-    let at = expect_keyword(text, Keyword::Set, at)?;
-    let at = expect_name(text, at)?;
-    let at = expect_sign(text, Sign::Equal, at)?;
+    let at = expect(text, Word::Name, at)?;
+    let at = expect(text, Keyword::Set, at)?;
+    let at = expect(text, Word::Name, at)?;
+    let at = expect(text, Sign::Equal, at)?;
     let at = term_end(text, Want::Value, at)?;
     where_end(text, at)
 }
@@ -105,8 +105,8 @@ fn update_end(text: &[u8], at: usize) -> Result<usize, Fault>
 fn delete_end(text: &[u8], at: usize) -> Result<usize, Fault>
     ensures { result ≡ delete_rest text.now at }
 {
-    let at = expect_keyword(text, Keyword::From, at)?;
-    let at = expect_name(text, at)?;
+    let at = expect(text, Keyword::From, at)?;
+    let at = expect(text, Word::Name, at)?;
     where_end(text, at)
 }
 
@@ -133,7 +133,7 @@ pub(crate) fn write_end(text: &[u8], write: Write, at: usize) -> Result<usize, F
 fn caught_end(text: &[u8], at: usize) -> Result<usize, Fault>
     ensures { result ≡ caught_rest text.now at }
 {
-    let at = expect_sign(text, Sign::Open, at)?;
+    let at = expect(text, Sign::Open, at)?;
     let p = pull(text, at)?;
     let at = match p.word {
         Word::Keyword(Keyword::Next) => argument_end(text, p.end)?,
@@ -142,7 +142,7 @@ fn caught_end(text: &[u8], at: usize) -> Result<usize, Fault>
         Word::Keyword(Keyword::Delete) => write_end(text, Write::Delete, p.end)?,
         _ => return Err(Fault::NotAllowed { place: p.place }),
     };
-    expect_sign(text, Sign::Close, at)
+    expect(text, Sign::Close, at)
 }
 
 /// The place behind SELECT, from its attributes on.
@@ -150,8 +150,8 @@ fn select_end(text: &[u8], at: usize) -> Result<usize, Fault>
     ensures { result ≡ select_rest text.now at }
 {
     let at = list_end(text, Element::Attribute, at)?;
-    let at = expect_keyword(text, Keyword::From, at)?;
-    let at = expect_name(text, at)?;
+    let at = expect(text, Keyword::From, at)?;
+    let at = expect(text, Word::Name, at)?;
     where_end(text, at)
 }
 
@@ -159,8 +159,8 @@ fn select_end(text: &[u8], at: usize) -> Result<usize, Fault>
 fn tail_end(text: &[u8], at: usize) -> Option<usize>
     ensures { result ≡ is_tail text.now at }
 {
-    match expect_sign(text, Sign::Dot, at) {
-        Ok(dot) => expect_keyword(text, Keyword::Tail, dot).ok(),
+    match expect(text, Sign::Dot, at) {
+        Ok(dot) => expect(text, Keyword::Tail, dot).ok(),
         Err(_) => None,
     }
 }

@@ -6,7 +6,7 @@ use super::clauses::{Write, argument_end, term_end, value_end, write_end};
 use faults::Fault;
 use lexer::keywords::Keyword;
 use lexer::signs::Sign;
-use terms::pull::{Word, expect_keyword, expect_sign, pull};
+use terms::pull::{Word, expect, pull};
 use terms::terms::Want;
 
 /// A statement that holds blocks.
@@ -49,25 +49,25 @@ fn simple_end(text: &[u8], first: First, at: usize) -> Result<usize, Fault>
 {
     let end = match first {
         First::Target => {
-            let at = expect_sign(text, Sign::Equal, at)?;
+            let at = expect(text, Sign::Equal, at)?;
             value_end(text, at)?
         }
         First::Argument => argument_end(text, at)?,
         First::Write(write) => write_end(text, write, at)?,
         _ => {
-            let at = expect_sign(text, Sign::Open, at)?;
-            expect_sign(text, Sign::Close, at)?
+            let at = expect(text, Sign::Open, at)?;
+            expect(text, Sign::Close, at)?
         }
     };
-    expect_sign(text, Sign::Semicolon, end)
+    expect(text, Sign::Semicolon, end)
 }
 
 /// The place behind the word that ends IF or WHILE and its semicolon.
 fn last_end(text: &[u8], keyword: Keyword, at: usize) -> Result<usize, Fault>
     ensures { result ≡ last_word text.now keyword at }
 {
-    let at = expect_keyword(text, keyword, at)?;
-    expect_sign(text, Sign::Semicolon, at)
+    let at = expect(text, keyword, at)?;
+    expect(text, Sign::Semicolon, at)
 }
 
 /// A word and the block behind it.
@@ -82,7 +82,7 @@ fn read_part(
     ensures value { result ≡ part_at text.now (block_at text.now depth) keyword (at, room) }
     ensures falls { IfOk result (λ s. s.1 ≤ room) }
 {
-    let at = expect_keyword(text, keyword, at)?;
+    let at = expect(text, keyword, at)?;
     read_block(text, at, depth, room)
 }
 

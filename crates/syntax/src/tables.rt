@@ -6,9 +6,7 @@ use super::clauses::argument_end;
 use faults::Fault;
 use lexer::keywords::Keyword;
 use lexer::signs::Sign;
-use terms::pull::{
-    Pulled, Word, expect_keyword, expect_name, expect_sign, is_keyword, is_sign, pull,
-};
+use terms::pull::{Pulled, Word, expect, pull};
 
 /// How many attributes may follow a table's first.
 const MORE_ATTRIBUTES: usize = 7;
@@ -18,7 +16,7 @@ fn next_attribute(text: &[u8], at: usize, room: usize) -> Result<Option<(usize, 
     ensures value { result ≡ attribute_behind text.now (at, room) }
     ensures falls { IfOk result (λ o. IfSome o (λ s. s.1 < room)) }
 {
-    let comma = expect_sign(text, Sign::Comma, at)?;
+    let comma = expect(text, Sign::Comma, at)?;
     let p = pull(text, comma)?;
     let Word::Name = p.word else {
         return Ok(None);
@@ -33,7 +31,7 @@ fn next_attribute(text: &[u8], at: usize, room: usize) -> Result<Option<(usize, 
 fn attributes_end(text: &[u8], at: usize) -> Result<usize, Fault>
     ensures { result ≡ attributes_at text.now at }
 {
-    let mut end = expect_name(text, at)?;
+    let mut end = expect(text, Word::Name, at)?;
     let mut room = MORE_ATTRIBUTES;
     while let Some((next, left)) = next_attribute(text, end, room)? {
         end = next;
@@ -62,10 +60,10 @@ fn reference(text: &[u8], rules: Rules, foreign: Pulled) -> Result<Rules, Fault>
             place: foreign.place,
         });
     }
-    let at = expect_keyword(text, Keyword::Key, foreign.end)?;
+    let at = expect(text, Keyword::Key, foreign.end)?;
     let at = argument_end(text, at)?;
-    let at = expect_keyword(text, Keyword::References, at)?;
-    let end = expect_name(text, at)?;
+    let at = expect(text, Keyword::References, at)?;
+    let end = expect(text, Word::Name, at)?;
     Ok(Rules {
         end,
         references: rules.references - 1,
@@ -79,10 +77,8 @@ fn order_end(text: &[u8], at: usize) -> Result<usize, Fault>
     ensures { result ≡ order_at text.now at }
 {
     let p = pull(text, at)?;
-    match p.word {
-        Word::Sign(Sign::Less | Sign::Equal | Sign::More) => Ok(p.end),
-        _ => Err(Fault::NotAllowed { place: p.place }),
-    }
+    p.must(matches!(p.word, Word::Sign(Sign::Less | Sign::Equal | Sign::More)))?;
+    Ok(p.end)
 }
 
 /// The place behind a number.
@@ -90,10 +86,8 @@ fn number_end(text: &[u8], at: usize) -> Result<usize, Fault>
     ensures { result ≡ number_at text.now at }
 {
     let p = pull(text, at)?;
-    match p.word {
-        Word::Number(_) => Ok(p.end),
-        _ => Err(Fault::NotAllowed { place: p.place }),
-    }
+    p.must(matches!(p.word, Word::Number(_)))?;
+    Ok(p.end)
 }
 
 /// A check, from behind its attribute on.
@@ -122,14 +116,14 @@ fn next_rule(text: &[u8], rules: Rules) -> Result<Option<Rules>, Fault>
     ensures falls { IfOk result (λ o. IfSome o (λ s. s.references + s.checks < rules.references + rules.checks)) }
 {
     let p = pull(text, rules.end)?;
-    if !is_sign(p.word, Sign::Comma) {
+    if p.word != Word::Sign(Sign::Comma) {
         return Ok(None);
     }
     let q = pull(text, p.end)?;
     if let Word::Name = q.word {
         return Ok(Some(check(text, rules, q)?));
     }
-    if is_keyword(q.word, Keyword::Foreign) && !rules.checked {
+    if q.word == Word::Keyword(Keyword::Foreign) && !rules.checked {
         return Ok(Some(reference(text, rules, q)?));
     }
     Err(Fault::NotAllowed { place: q.place })
@@ -150,12 +144,12 @@ fn rules_end(text: &[u8], rules: Rules) -> Result<Rules, Fault>
 fn table(text: &[u8], at: usize, references: usize, checks: usize) -> Result<Rules, Fault>
     ensures { result ≡ table_rest text.now at references checks }
 {
-    let at = expect_name(text, at)?;
-    let at = expect_sign(text, Sign::Open, at)?;
+    let at = expect(text, Word::Name, at)?;
+    let at = expect(text, Sign::Open, at)?;
     let at = attributes_end(text, at)?;
-    let at = expect_sign(text, Sign::Comma, at)?;
-    let at = expect_keyword(text, Keyword::Primary, at)?;
-    let at = expect_keyword(text, Keyword::Key, at)?;
+    let at = expect(text, Sign::Comma, at)?;
+    let at = expect(text, Keyword::Primary, at)?;
+    let at = expect(text, Keyword::Key, at)?;
     let end = argument_end(text, at)?;
     let rules = rules_end(
         text,
@@ -166,8 +160,8 @@ fn table(text: &[u8], at: usize, references: usize, checks: usize) -> Result<Rul
             checked: false,
         },
     )?;
-    let at = expect_sign(text, Sign::Close, rules.end)?;
-    let end = expect_sign(text, Sign::Semicolon, at)?;
+    let at = expect(text, Sign::Close, rules.end)?;
+    let end = expect(text, Sign::Semicolon, at)?;
     Ok(Rules {
         end,
         references: rules.references,
@@ -191,7 +185,7 @@ fn next_table(text: &[u8], schema: Schema) -> Result<Option<Schema>, Fault>
     ensures falls { IfOk result (λ o. IfSome o (λ s. s.tables < schema.tables)) }
 {
     let p = pull(text, schema.end)?;
-    if !is_keyword(p.word, Keyword::Table) {
+    if p.word != Word::Keyword(Keyword::Table) {
         return Ok(None);
     }
     if schema.tables == 0 {

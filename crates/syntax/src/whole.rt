@@ -9,7 +9,7 @@ use faults::Fault;
 use lexer::keywords::Keyword;
 use lexer::token::next_token;
 use lexer::tokens::check_length;
-use terms::pull::{expect_keyword, expect_name};
+use terms::pull::{Word, expect};
 
 /// Refuses a token behind the model.
 fn expect_end(text: &[u8], at: usize) -> Result<(), Fault>
@@ -28,11 +28,11 @@ fn read_model(text: &[u8]) -> Result<(), Fault>
     ensures { result ≡ form_of text.now }
 {
     check_length(text)?;
-    let at = expect_keyword(text, Keyword::Model, 0)?;
-    let at = expect_name(text, at)?;
+    let at = expect(text, Keyword::Model, 0)?;
+    let at = expect(text, Word::Name, at)?;
     let at = tables_end(text, at)?;
     let (at, _) = read_block(text, at, 8, 256)?;
-    let at = expect_keyword(text, Keyword::EndModel, at)?;
+    let at = expect(text, Keyword::EndModel, at)?;
     expect_end(text, at)
 }
 

@@ -4,7 +4,7 @@ ghost use Rattle.terms.specs.Grammar.{Accepts, Completes};
 ghost use Rattle.terms.specs.Pull.{pulled};
 ghost use Rattle.terms.specs.Terms.{closed_as, operator_at, nil_behind, tail_of, unary, binary, opened, term_at};
 
-use super::pull::{Word, expect_keyword, expect_name, expect_sign, is_keyword, is_sign, pull};
+use super::pull::{Pulled, Word, expect, pull};
 use super::shapes::{
     Operator, given_by, inner_of, is_served, left_side, made_of, operator_of, sides_of,
 };
@@ -17,7 +17,7 @@ use lexer::signs::Sign;
 fn close(text: &[u8], shape: Shape, at: usize) -> Result<(Shape, usize), Fault>
     ensures { result ≡ closed_as text.now shape at }
 {
-    let end = expect_sign(text, Sign::Close, at)?;
+    let end = expect(text, Sign::Close, at)?;
     Ok((shape, end))
 }
 
@@ -47,14 +47,17 @@ fn operator(
 fn nil_behind(text: &[u8], left: Shape, sign: Sign, at: usize) -> Option<usize>
     ensures { result ≡ nil_behind text.now left sign at }
 {
-    let Shape::Name = left else {
-        return None;
-    };
-    if !is_sign(Word::Sign(sign), Sign::Equal) {
+    if left != Shape::Name || sign != Sign::Equal {
         return None;
     }
     match pull(text, at) {
-        Ok(p) if is_keyword(p.word, Keyword::Nil) => Some(p.end),
+        Ok(
+            Pulled {
+                word: Word::Keyword(Keyword::Nil),
+                end,
+                ..
+            },
+        ) => Some(end),
         _ => None,
     }
 }
@@ -66,12 +69,12 @@ fn name_tail(text: &[u8], at: usize) -> Result<(Shape, usize), Fault>
     let Ok(p) = pull(text, at) else {
         return Ok((Shape::Name, at));
     };
-    if is_sign(p.word, Sign::Dot) {
-        let end = expect_keyword(text, Keyword::Head, p.end)?;
+    if p.word == Word::Sign(Sign::Dot) {
+        let end = expect(text, Keyword::Head, p.end)?;
         return Ok((Shape::Value, end));
     }
-    if is_sign(p.word, Sign::Open) {
-        let end = expect_name(text, p.end)?;
+    if p.word == Word::Sign(Sign::Open) {
+        let end = expect(text, Word::Name, p.end)?;
         return close(text, Shape::Value, end);
     }
     Ok((Shape::Name, at))
@@ -117,13 +120,12 @@ fn bracket(text: &[u8], want: Want, at: usize, depth: usize) -> Result<(Shape, u
     ensures { result ≡ opened text.now (term_at text.now depth) want at }
 {
     let p = pull(text, at)?;
-    if is_sign(p.word, Sign::Minus) {
-        return unary_rest(text, want, Sign::Minus, p.place, p.end, depth);
+    match p.word {
+        Word::Sign(sign @ (Sign::Minus | Sign::Not)) => unary_rest(
+            text, want, sign, p.place, p.end, depth,
+        ),
+        _ => binary_rest(text, want, at, depth),
     }
-    if is_sign(p.word, Sign::Not) {
-        return unary_rest(text, want, Sign::Not, p.place, p.end, depth);
-    }
-    binary_rest(text, want, at, depth)
 }
 
 /// An expression or a condition with at most `depth` brackets, one in another: its shape and the place behind it.
