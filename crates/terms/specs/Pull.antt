@@ -1,7 +1,7 @@
 -- A token that has to come.
-use Rattle.std.specs.Prelude.{ℕ, Bool, true, false, cond, List, length, Some, None, Ok, Err, Option, Result, ◌==◌}
+use Rattle.std.specs.Prelude.{ℕ, zero, suc, Bool, true, false, cond, List, length, Some, None, Ok, Err, Option, Result, ◌==◌}
 use Rattle.faults.specs.declared.Fault.{Fault}
-use Rattle.faults.specs.declared.Fault.TheVariants.{NotAllowed}
+use Rattle.faults.specs.declared.Fault.TheVariants.{NotAllowed, LimitPassed}
 use Rattle.lexer.specs.declared.keywords.Keyword as keywords
 use Rattle.lexer.specs.declared.keywords.Keyword.TheVariants as keyword_variants
 use Rattle.lexer.specs.declared.signs.Sign as signs
@@ -124,6 +124,11 @@ is_word (Sign s) = is_sign s
 -- A token that may not stand there is refused at its place.
 abbrev pub must_be : Bool → Pulled → Result (Unit {0}) Fault
 must_be fits p = cond fits (Ok tt) (Err (NotAllowed p.place))
+
+-- Where so many may come, one less may come behind a token; where none may, the token is refused at its place.
+abbrev pub taken_from : ℕ → Pulled → Result ℕ Fault
+taken_from zero p = Err (LimitPassed p.place)
+taken_from (suc n) p = Ok n
 
 -- A token of one sort has to stand there: the place behind it, or the refusal at its place.
 abbrev pub must : (Word → Bool) → Pulled → Result ℕ Fault

@@ -3,7 +3,7 @@ ghost use Rattle.std.specs.Prelude.{◌≡◌};
 ghost use Rattle.lexer.specs.Tokens.{lexeme_of};
 ghost use Rattle.terms.specs.declared.pull.Word.{Word};
 ghost use Rattle.terms.specs.declared.pull.Word.TheVariants as word;
-ghost use Rattle.terms.specs.Pull.{word_of, pulled, is_sign, is_keyword, must_be, word_at};
+ghost use Rattle.terms.specs.Pull.{word_of, pulled, is_sign, is_keyword, must_be, taken_from};
 
 use faults::Fault;
 use lexer::keywords::Keyword;
@@ -66,6 +66,14 @@ impl Pulled {
         }
         Err(Fault::NotAllowed { place: self.place })
     }
+
+    /// How many more may come behind the token, where so many may come with it; refused where none may.
+    pub fn take_from(self, room: usize) -> Result<usize, Fault>
+        ensures { result ≡ taken_from room self }
+    {
+        room.checked_sub(1)
+            .ok_or(Fault::LimitPassed { place: self.place })
+    }
 }
 
 /// The token that has to come from a place on.
@@ -94,20 +102,4 @@ pub fn is_keyword(word: Word, keyword: Keyword) -> bool
     ensures { result ≡ is_keyword keyword word }
 {
     word == Word::Keyword(keyword)
-}
-
-/// The place behind a word that has to come.
-fn expect_word(text: &[u8], word: Word, at: usize) -> Result<usize, Fault>
-    ensures { result ≡ word_at text.now word at }
-{
-    let p = pull(text, at)?;
-    p.must(p.word == word)?;
-    Ok(p.end)
-}
-
-/// The place behind a token that has to come: a sign, a keyword or any other word.
-pub fn expect<W: Into<Word>>(text: &[u8], due: W, at: usize) -> Result<usize, Fault>
-    ensures { (w : Word) × W.converts due w × (result ≡ word_at text.now w at) }
-{
-    expect_word(text, due.into(), at)
 }
