@@ -29,6 +29,7 @@ fn where_end(at: Reader) -> Result<Reader, Fault>
     term_end(at.expect(Keyword::Where)?, Want::Truth)
 }
 
+// An enum and no closure: what a closure reads would have to be a ghost value, which a loop's invariant cannot name (tried).
 /// What a list is made of: attributes in SELECT, values in INSERT.
 #[derive(Clone, Copy)]
 pub(crate) enum Element {
@@ -101,6 +102,7 @@ fn delete_end(at: Reader) -> Result<Reader, Fault>
     where_end(at.expect(Keyword::From)?.expect(Word::Name)?)
 }
 
+// An enum and no function: it is told apart from the reading, and a function pointer cannot be handed out.
 /// What a statement that writes begins with.
 #[derive(Clone, Copy)]
 pub(crate) enum Write {

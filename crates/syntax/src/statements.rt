@@ -20,6 +20,7 @@ pub(crate) enum Holder {
     While,
 }
 
+// An enum and no function: the limit is told before the statement is read, and a function pointer cannot be handed out.
 /// What a statement begins with: a variable, READ, LOAD or NEXT, a write, COMMIT or ROLLBACK, IF or WHILE.
 #[derive(Clone, Copy)]
 pub(crate) enum First {

@@ -49,6 +49,7 @@ pub(crate) struct Rules<'a> {
     pub at: Reader<'a>,
     pub references: usize,
     pub checks: usize,
+    // A bool and no enum: it only says whether, and no value stands beside it.
     pub checked: bool,
 }
 
