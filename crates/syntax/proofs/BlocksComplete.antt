@@ -11,7 +11,7 @@ use Rattle.terms.specs.declared.shapes.Want.TheVariants as want
 use Rattle.terms.specs.Pull.{and_then, pulled, must, is_sign, is_keyword, sign_at, keyword_at}
 use Rattle.terms.specs.Trees.{Token, name, number, keyword, sign, Tree, literal, lone, head, cell, truth, is_nil, only, pair, words_of}
 use Rattle.terms.specs.Grammar.{Stands}
-use Rattle.terms.proofs.Steps.{then_by, word_in, first}
+use Rattle.terms.proofs.Steps.{then_by, word_in, first, taken}
 use Rattle.syntax.specs.Repeats.{some, repeated}
 use Rattle.syntax.specs.Trees.{Act, next, insert, update, delete, Simple, assign, clear, tail, select, caught, read, load, act, commit, rollback, Block, none, simple, branch, loop, names_words, act_words, simple_words, block_words, Fits, ActFits, SimpleFits, BlockFits, count_of, levels_of}
 use Rattle.syntax.proofs.Repeating.{repeated_none}
@@ -143,7 +143,7 @@ module _ (text : List ℕ) where
       pull_go text (keyword k) at (λ p. statement_in text (holding text d) room p (first_of p.word)) _ ws e s (λ place m r.
       ap (statement_in text (holding text d) room (record { word = word.Keyword k; place = place; end = m })) is
       ∙ with_room_lem room place _ has
-      ∙ ap some (sym (holding_more text d h place m (room - 1) (λ z. omega arith)) ∙ body m r))
+      ∙ ap some (sym (holding_more text d (d - 1) h (record { word = word.Keyword k; place = place; end = m }) m (room - 1) (taken d _ deep)) ∙ body m r))
 
   ok_left : (e a b : ℕ) → a ≡ b → ◌≡◌ {A = Result (ℕ × ℕ) Fault} (Ok (e, a)) (Ok (e, b))
   ok_left e a b h = ap (λ n. Ok (e, n)) h

@@ -1,15 +1,19 @@
 -- IF and WHILE by how many levels of blocks are allowed.
-use Rattle.std.proofs.Common.{◌≡◌, ℕ, zero, suc, ◌-◌, List, Err, refl, ap, arith}
+use Rattle.std.proofs.Common.{◌≡◌, ℕ, zero, suc, List, Ok, Err, sym, ap}
+use Rattle.faults.specs.declared.Fault.{Fault}
 use Rattle.faults.specs.declared.Fault.TheVariants.{LimitPassed}
+use Rattle.terms.specs.declared.pull.Pulled.{Pulled}
+use Rattle.terms.specs.Pull.{taken_from}
+use Rattle.terms.proofs.Steps.{never}
 use Rattle.syntax.specs.declared.statements.Holder.{Holder}
 use Rattle.syntax.specs.Statements.{holder_at, holding, block_at}
 
-pub holding_none : (text : List ℕ) (d : ℕ) (h : Holder) (place at room : ℕ) → d ≡ 0 → holding text d h place at room ≡ Err (LimitPassed place)
+pub holding_none : (text : List ℕ) (d : ℕ) (h : Holder) (p : Pulled) (at room : ℕ) (f : Fault) → Err f ≡ taken_from d p → Err f ≡ holding text d h p.place at room
 unfolding holding
-holding_none text zero h place at room e = refl
-holding_none text (suc d) h place at room e = absurd (omega arith)
+holding_none text zero h p at room f e = let k : f ≡ LimitPassed p.place = cc in ap Err k
+holding_none text (suc d) h p at room f e = absurd (never e)
 
-pub holding_more : (text : List ℕ) (d : ℕ) (h : Holder) (place at room : ℕ) → (d ≡ 0 → ⊥) → holder_at text (block_at text (d - 1)) h at room ≡ holding text d h place at room
+pub holding_more : (text : List ℕ) (d n : ℕ) (h : Holder) (p : Pulled) (at room : ℕ) → Ok n ≡ taken_from d p → holder_at text (block_at text n) h at room ≡ holding text d h p.place at room
 unfolding holding
-holding_more text zero h place at room e = absurd (e refl)
-holding_more text (suc d) h place at room e = let k : suc d - 1 ≡ d = omega arith in ap (λ n. holder_at text (block_at text n) h at room) k
+holding_more text zero n h p at room e = absurd (never (sym e))
+holding_more text (suc d) n h p at room e = let k : n ≡ d = cc in ap (λ m. holder_at text (block_at text m) h at room) k

@@ -7,3 +7,8 @@ mod BlocksComplete
 mod TablesAccepted
 mod TablesComplete
 mod Models
+mod Rooms
+mod Loops
+mod Elements
+mod Rules
+mod Firsts

@@ -17,7 +17,7 @@ use Rattle.lexer.specs.Lexing.{next_token, with_end}
 use Rattle.lexer.specs.Layout.{Cut}
 use Rattle.lexer.proofs.Laws.{cut_laid, laid_cut}
 use Rattle.terms.specs.Grammar.{token_of}
-use Rattle.syntax.specs.declared.tables.Schema.{Schema}
+use Rattle.syntax.specs.Tables.{Schema}
 use Rattle.syntax.specs.Tables.{table_behind, tables_at}
 use Rattle.syntax.specs.Statements.{block_at}
 use Rattle.syntax.specs.Whole.{or_behind, end_at, model_at, form_of}

@@ -29,7 +29,7 @@ not_none h = let z : ◌≡◌ {A = ℕ} 0 1 = cc in omega arith
 
 module _ (text : List ℕ) where
   -- One element more came.
-  element_came : (el : Element) (at m : ℕ) → element_behind text el at ≡ Ok (Some m) → (c : ℕ) × Run text at (sign Comma ∷ []) c × (element_at text el c ≡ Ok m)
+  pub element_came : (el : Element) (at m : ℕ) → element_behind text el at ≡ Ok (Some m) → (c : ℕ) × Run text at (sign Comma ∷ []) c × (element_at text el c ≡ Ok m)
   element_came el at m h = go (pulled text at) refl h
     where
       here : (p : Pulled) → pulled text at ≡ Ok p → (b : Bool) → is_sign Comma p.word ≡ b → cond b (some (element_at text el p.end)) (Ok None) ≡ Ok (Some m) → (c : ℕ) × Run text at (sign Comma ∷ []) c × (element_at text el c ≡ Ok m)

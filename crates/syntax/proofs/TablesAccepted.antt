@@ -17,8 +17,8 @@ use Rattle.syntax.specs.Trees.{Reference, Check, Table, names_words, references_
 use Rattle.syntax.proofs.Repeating.{repeated_ok}
 use Rattle.syntax.proofs.Runs.{Run, run_none, glue, split, ends_at, sign_step, keyword_step, name_step, pull_step}
 use Rattle.terms.proofs.Steps.{must_came, keyword_same, sign_is}
-use Rattle.syntax.specs.declared.tables.Rules.{Rules}
-use Rattle.syntax.specs.declared.tables.Schema.{Schema}
+use Rattle.syntax.specs.Tables.{Rules}
+use Rattle.syntax.specs.Tables.{Schema}
 use Rattle.syntax.specs.Clauses.{argument_at}
 use Rattle.syntax.specs.Tables.{with_room, attribute_behind, attributes_at, is_order, order_at, is_number, number_at, reference_from, check_from, rule_in, rule_behind, rules_at, table_rest, table_behind}
 use Rattle.syntax.proofs.Parts.{some_ok, not_none, argument_ok}

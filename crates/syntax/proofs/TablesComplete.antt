@@ -12,8 +12,8 @@ use Rattle.syntax.specs.Trees.{Reference, Check, Table, names_words, references_
 use Rattle.syntax.proofs.Repeating.{repeated_none}
 use Rattle.syntax.proofs.Runs.{Run, split, over, sign_go, keyword_go, name_go, pull_go, name_end}
 use Rattle.terms.proofs.Steps.{must_read}
-use Rattle.syntax.specs.declared.tables.Rules.{Rules}
-use Rattle.syntax.specs.declared.tables.Schema.{Schema}
+use Rattle.syntax.specs.Tables.{Rules}
+use Rattle.syntax.specs.Tables.{Schema}
 use Rattle.syntax.specs.Clauses.{argument_at}
 use Rattle.syntax.specs.Tables.{attribute_behind, attributes_at, is_order, order_at, is_number, number_at, rule_in, rule_behind, rules_at, table_rest, table_behind}
 use Rattle.syntax.proofs.Repeating.{repeated_some}

@@ -80,9 +80,12 @@ caught_in text p =
     (cond (is_keyword keyword.Delete p.word) (delete_rest text p.end)
     (Err (NotAllowed p.place)))))
 
+abbrev pub act_at : List ℕ → ℕ → Result ℕ Fault
+act_at text at = and_then (pulled text at) (caught_in text)
+
 -- (NEXT(v)) or (a write)
 abbrev pub caught_rest : List ℕ → ℕ → Result ℕ Fault
-caught_rest text at = and_then (sign_at text Open at) (λ a. and_then (and_then (pulled text a) (caught_in text)) (sign_at text Close))
+caught_rest text at = and_then (sign_at text Open at) (λ a. and_then (act_at text a) (sign_at text Close))
 
 -- a,b FROM t WHERE c
 abbrev pub select_rest : List ℕ → ℕ → Result ℕ Fault
@@ -91,13 +94,17 @@ select_rest text at =
     and_then (keyword_at text keyword.From a) (λ b.
     and_then (name_at text b) (where_at text)))
 
+-- .TAIL
+abbrev pub tail_at : List ℕ → ℕ → Result ℕ Fault
+tail_at text at = and_then (sign_at text Dot at) (keyword_at text keyword.Tail)
+
 -- .TAIL, if it comes
 abbrev pub found : Result ℕ Fault → Option ℕ
 found (Ok e) = Some e
 found (Err f) = None
 
 abbrev pub is_tail : List ℕ → ℕ → Option ℕ
-is_tail text at = found (and_then (sign_at text Dot at) (keyword_at text keyword.Tail))
+is_tail text at = found (tail_at text at)
 
 abbrev pub tail_or : Option ℕ → Result ℕ Fault → Result ℕ Fault
 tail_or (Some e) other = Ok e

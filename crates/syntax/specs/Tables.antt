@@ -8,10 +8,22 @@ use Rattle.terms.specs.declared.pull.Pulled.{Pulled}
 use Rattle.terms.specs.declared.pull.Word.{Word}
 use Rattle.terms.specs.declared.pull.Word.TheVariants as word
 use Rattle.terms.specs.Pull.{and_then, must, pulled, is_sign, is_keyword, is_name, sign_at, keyword_at, name_at}
-use Rattle.syntax.specs.declared.tables.Rules.{Rules}
-use Rattle.syntax.specs.declared.tables.Schema.{Schema}
 use Rattle.syntax.specs.Repeats.{some, repeated}
 use Rattle.syntax.specs.Clauses.{argument_at}
+
+-- How far the references and checks of a table are read: the place behind them, how many of each the schema may still have, and whether a check has been among them.
+pub record Rules : Type 0 where
+  pub end : ℕ
+  pub references : ℕ
+  pub checks : ℕ
+  pub checked : Bool
+
+-- How far the schema is read: the place behind it, and how many tables, references and checks may still come.
+pub record Schema : Type 0 where
+  pub end : ℕ
+  pub tables : ℕ
+  pub references : ℕ
+  pub checks : ℕ
 
 -- Room for one thing more, or the refusal at a place.
 abbrev pub with_room : {A : Type 0} → ℕ → ℕ → Result A Fault → Result A Fault

@@ -2,6 +2,7 @@
 #![tactic(auto)]
 
 mod clauses;
+mod limited;
 mod statements;
 mod tables;
 pub mod whole;

@@ -1,12 +1,16 @@
 //! Statements and blocks: a block reads statements, and IF and WHILE read blocks, one level less deep each time.
-ghost use Rattle.std.specs.Prelude.{◌≡◌, ◌<◌, ◌≤◌, IfSome, IfOk};
-ghost use Rattle.syntax.specs.Statements.{first_of, simple_rest, last_word, part_at, branch_at, loop_at, holding, statement_by, block_at};
+ghost use Rattle.std.specs.Prelude.{◌≡◌};
+ghost use Rattle.terms.specs.Readers.{Reads};
+ghost use Rattle.syntax.specs.States.{Proceeds, ProceedsMore};
+ghost use Rattle.syntax.specs.Statements.{first_of, simple_body, simple_rest, last_word, part_at, branch_at, loop_at, holding, statement_by, block_at};
 
 use super::clauses::{Write, argument_end, term_end, value_end, write_end};
+use super::limited::Limited;
 use faults::Fault;
 use lexer::keywords::Keyword;
 use lexer::signs::Sign;
-use terms::pull::{Word, expect_keyword, expect_sign, pull};
+use terms::pull::{Pulled, Word};
+use terms::reader::Reader;
 use terms::terms::Want;
 
 /// A statement that holds blocks.
@@ -16,6 +20,7 @@ pub(crate) enum Holder {
     While,
 }
 
+// An enum and no function: the limit is told before the statement is read, and a function pointer cannot be handed out.
 /// What a statement begins with: a variable, READ, LOAD or NEXT, a write, COMMIT or ROLLBACK, IF or WHILE.
 #[derive(Clone, Copy)]
 pub(crate) enum First {
@@ -43,137 +48,101 @@ fn first_of(word: Word) -> First
     }
 }
 
-/// The place behind a statement that holds no block, from behind its first token on.
-fn simple_end(text: &[u8], first: First, at: usize) -> Result<usize, Fault>
-    ensures { result ≡ simple_rest text.now first at }
+/// The reader behind a statement that holds no block but for its semicolon, from behind its first token on.
+fn body_end(at: Reader, first: First) -> Result<Reader, Fault>
+    ensures { Reads (λ text from. simple_body text first from) at.entry result }
 {
-    let end = match first {
-        First::Target => {
-            let at = expect_sign(text, Sign::Equal, at)?;
-            value_end(text, at)?
-        }
-        First::Argument => argument_end(text, at)?,
-        First::Write(write) => write_end(text, write, at)?,
-        _ => {
-            let at = expect_sign(text, Sign::Open, at)?;
-            expect_sign(text, Sign::Close, at)?
-        }
-    };
-    expect_sign(text, Sign::Semicolon, end)
+    match first {
+        First::Target => value_end(at.expect(Sign::Equal)?),
+        First::Argument => argument_end(at),
+        First::Write(write) => write_end(at, write),
+        _ => at.expect(Sign::Open)?.expect(Sign::Close),
+    }
 }
 
-/// The place behind the word that ends IF or WHILE and its semicolon.
-fn last_end(text: &[u8], keyword: Keyword, at: usize) -> Result<usize, Fault>
-    ensures { result ≡ last_word text.now keyword at }
+/// The reader behind such a statement.
+fn simple_end(at: Reader, first: First) -> Result<Reader, Fault>
+    ensures { Reads (λ text from. simple_rest text first from) at.entry result }
 {
-    let at = expect_keyword(text, keyword, at)?;
-    expect_sign(text, Sign::Semicolon, at)
+    body_end(at, first)?.expect(Sign::Semicolon)
+}
+
+/// The reader behind the word that ends IF or WHILE and its semicolon.
+fn last_end(at: Reader, keyword: Keyword) -> Result<Reader, Fault>
+    ensures { Reads (λ text from. last_word text keyword from) at.entry result }
+{
+    at.expect(keyword)?.expect(Sign::Semicolon)
 }
 
 /// A word and the block behind it.
 #[cycle(statements)]
-fn read_part(
-    text: &[u8],
-    keyword: Keyword,
-    at: usize,
-    depth: usize,
-    room: usize,
-) -> Result<(usize, usize), Fault>
-    ensures value { result ≡ part_at text.now (block_at text.now depth) keyword (at, room) }
-    ensures falls { IfOk result (λ s. s.1 ≤ room) }
+fn read_part(state: Limited, keyword: Keyword, depth: usize) -> Result<Limited, Fault>
+    ensures { Proceeds (λ text s. part_at text (block_at text depth) keyword s) state.entry result }
 {
-    let at = expect_keyword(text, keyword, at)?;
-    read_block(text, at, depth, room)
+    let at = state.at.expect(keyword)?;
+    read_block(Limited { at, ..state }, depth)
 }
 
 /// IF, from its condition on.
 #[cycle(statements)]
-fn read_branch(text: &[u8], at: usize, depth: usize, room: usize) -> Result<(usize, usize), Fault>
-    ensures value { result ≡ branch_at text.now (block_at text.now depth) at room }
-    ensures falls { IfOk result (λ s. s.1 ≤ room) }
+fn read_branch(state: Limited, depth: usize) -> Result<Limited, Fault>
+    ensures { Proceeds (λ text s. branch_at text (block_at text depth) s.0 s.1) state.entry result }
 {
-    let at = term_end(text, Want::Truth, at)?;
-    let (at, room) = read_part(text, Keyword::Then, at, depth, room)?;
-    let (at, room) = read_part(text, Keyword::Else, at, depth, room)?;
-    let end = last_end(text, Keyword::EndIf, at)?;
-    Ok((end, room))
+    let at = term_end(state.at, Want::Truth)?;
+    let state = read_part(Limited { at, ..state }, Keyword::Then, depth)?;
+    let state = read_part(state, Keyword::Else, depth)?;
+    let at = last_end(state.at, Keyword::EndIf)?;
+    Ok(Limited { at, ..state })
 }
 
 /// WHILE, from its condition on.
 #[cycle(statements)]
-fn read_loop(text: &[u8], at: usize, depth: usize, room: usize) -> Result<(usize, usize), Fault>
-    ensures value { result ≡ loop_at text.now (block_at text.now depth) at room }
-    ensures falls { IfOk result (λ s. s.1 ≤ room) }
+fn read_loop(state: Limited, depth: usize) -> Result<Limited, Fault>
+    ensures { Proceeds (λ text s. loop_at text (block_at text depth) s.0 s.1) state.entry result }
 {
-    let at = term_end(text, Want::Truth, at)?;
-    let (at, room) = read_part(text, Keyword::Do, at, depth, room)?;
-    let end = last_end(text, Keyword::EndWhile, at)?;
-    Ok((end, room))
+    let at = term_end(state.at, Want::Truth)?;
+    let state = read_part(Limited { at, ..state }, Keyword::Do, depth)?;
+    let at = last_end(state.at, Keyword::EndWhile)?;
+    Ok(Limited { at, ..state })
 }
 
-/// A statement that holds blocks, whose first token stands at `place`, where so many more levels are allowed.
+/// A statement that holds blocks, from behind its first token `p` on, where so many more levels are allowed.
 #[cycle(statements)]
-fn read_holder(
-    text: &[u8],
-    holder: Holder,
-    place: usize,
-    at: usize,
-    depth: usize,
-    room: usize,
-) -> Result<(usize, usize), Fault>
-    ensures value { result ≡ holding text.now depth holder place at room }
-    ensures falls { IfOk result (λ s. s.1 ≤ room) }
+fn read_holder(state: Limited, holder: Holder, p: Pulled, depth: usize) -> Result<Limited, Fault>
+    ensures { Proceeds (λ text s. holding text depth holder p.place s.0 s.1) state.entry result }
 {
-    if depth == 0 {
-        return Err(Fault::LimitPassed { place });
-    }
+    let depth = p.take_from(depth)?;
     match holder {
-        Holder::If => read_branch(text, at, depth - 1, room),
-        Holder::While => read_loop(text, at, depth - 1, room),
+        Holder::If => read_branch(state, depth),
+        Holder::While => read_loop(state, depth),
     }
 }
 
-/// One statement more, if one comes: the place behind it, and how many more are allowed.
+/// One statement more, if one comes.
 #[cycle(statements)]
-fn next_statement(
-    text: &[u8],
-    at: usize,
-    depth: usize,
-    room: usize,
-) -> Result<Option<(usize, usize)>, Fault>
-    ensures value { result ≡ statement_by text.now (holding text.now depth) (at, room) }
-    ensures falls { IfOk result (λ o. IfSome o (λ s. s.1 < room)) }
+fn next_statement(state: Limited, depth: usize) -> Result<Option<Limited>, Fault>
+    ensures { ProceedsMore (λ text s. statement_by text (holding text depth) s) state.entry result }
 {
-    let p = pull(text, at)?;
+    let (p, at) = state.at.pull()?;
     let first = first_of(p.word);
     if let First::Nothing = first {
         return Ok(None);
     }
-    if room == 0 {
-        return Err(Fault::LimitPassed { place: p.place });
-    }
+    let room = p.take_from(state.room)?;
     if let First::Holder(holder) = first {
-        return Ok(Some(read_holder(text, holder, p.place, p.end, depth, room - 1)?));
+        return Ok(Some(read_holder(Limited { at, room }, holder, p, depth)?));
     }
-    Ok(Some((simple_end(text, first, p.end)?, room - 1)))
+    let at = simple_end(at, first)?;
+    Ok(Some(Limited { at, room }))
 }
 
 /// Statements one after another, up to a token that begins none.
 #[cycle(statements)]
-pub(crate) fn read_block(
-    text: &[u8],
-    at: usize,
-    depth: usize,
-    room: usize,
-) -> Result<(usize, usize), Fault>
-    ensures value { result ≡ block_at text.now depth at room }
-    ensures falls { IfOk result (λ s. s.1 ≤ room) }
+pub(crate) fn read_block(mut state: Limited, depth: usize) -> Result<Limited, Fault>
+    ensures { Proceeds (λ text s. block_at text depth s.0 s.1) state.entry result }
 {
-    let mut end = at;
-    let mut left = room;
-    while let Some((next, rest)) = next_statement(text, end, depth, left)? {
-        end = next;
-        left = rest;
+    while let Some(next) = next_statement(state, depth)? {
+        state = next;
     }
-    Ok((end, left))
+    Ok(state)
 }

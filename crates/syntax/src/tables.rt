@@ -1,223 +1,198 @@
 //! The tables of a schema.
-ghost use Rattle.std.specs.Prelude.{◌≡◌, ◌+◌, ◌<◌, ◌≤◌, IfSome, IfOk};
-ghost use Rattle.syntax.specs.Tables.{attribute_behind, attributes_at, order_at, number_at, reference_from, check_from, rule_behind, rules_at, table_rest, table_behind, tables_at};
+ghost use Rattle.std.specs.Prelude.{◌≡◌};
+ghost use Rattle.terms.specs.Readers.{Reads};
+ghost use Rattle.syntax.specs.States.{Fewer, ProceedsMore, RulesGo, RulesMore, RulesOne, TablesMore};
+ghost use Rattle.syntax.specs.Tables.{attribute_behind, attributes_at, order_at, number_at, reference_from, check_from, rule_in, rule_behind, rules_at, table_rest, table_behind, tables_at};
 
 use super::clauses::argument_end;
+use super::limited::Limited;
 use faults::Fault;
 use lexer::keywords::Keyword;
 use lexer::signs::Sign;
-use terms::pull::{
-    Pulled, Word, expect_keyword, expect_name, expect_sign, is_keyword, is_sign, pull,
-};
+use terms::pull::{Pulled, Word};
+use terms::reader::Reader;
 
 /// How many attributes may follow a table's first.
 const MORE_ATTRIBUTES: usize = 7;
 
-/// The place behind a comma and one attribute more, with how many may still come; `None` where the key has to come.
-fn next_attribute(text: &[u8], at: usize, room: usize) -> Result<Option<(usize, usize)>, Fault>
-    ensures value { result ≡ attribute_behind text.now (at, room) }
-    ensures falls { IfOk result (λ o. IfSome o (λ s. s.1 < room)) }
+/// A comma and one attribute more; `None` where the key has to come.
+fn next_attribute(state: Limited) -> Result<Option<Limited>, Fault>
+    ensures { ProceedsMore attribute_behind state.entry result }
 {
-    let comma = expect_sign(text, Sign::Comma, at)?;
-    let p = pull(text, comma)?;
-    let Word::Name = p.word else {
+    let (p, at) = state.at.expect(Sign::Comma)?.pull()?;
+    if p.word != Word::Name {
         return Ok(None);
-    };
-    if room == 0 {
-        return Err(Fault::LimitPassed { place: p.place });
     }
-    Ok(Some((p.end, room - 1)))
+    let room = p.take_from(state.room)?;
+    Ok(Some(Limited { at, room }))
 }
 
-/// The place behind a table's attributes.
-fn attributes_end(text: &[u8], at: usize) -> Result<usize, Fault>
-    ensures { result ≡ attributes_at text.now at }
+/// The reader behind a table's attributes.
+fn attributes_end(at: Reader) -> Result<Reader, Fault>
+    ensures { Reads attributes_at at.entry result }
 {
-    let mut end = expect_name(text, at)?;
-    let mut room = MORE_ATTRIBUTES;
-    while let Some((next, left)) = next_attribute(text, end, room)? {
-        end = next;
-        room = left;
+    let at = at.expect(Word::Name)?;
+    let mut state = Limited {
+        at,
+        room: MORE_ATTRIBUTES,
+    };
+    while let Some(next) = next_attribute(state)? {
+        state = next;
     }
-    Ok(end)
+    Ok(state.at)
 }
 
-/// How far the references and checks of a table are read: the place behind them, how many of each the schema may still
+/// How far the references and checks of a table are read: the reader behind them, how many of each the schema may still
 /// have, and whether a check has been among them.
 #[derive(Clone, Copy)]
-pub(crate) struct Rules {
-    pub end: usize,
+pub(crate) struct Rules<'a> {
+    pub at: Reader<'a>,
     pub references: usize,
     pub checks: usize,
+    // A bool and no enum: it only says whether, and no value stands beside it.
     pub checked: bool,
 }
 
-/// A reference, from behind FOREIGN on.
-fn reference(text: &[u8], rules: Rules, foreign: Pulled) -> Result<Rules, Fault>
-    ensures value { result ≡ reference_from text.now rules foreign }
-    ensures falls { IfOk result (λ s. s.references + s.checks < rules.references + rules.checks) }
+/// A reference, from behind FOREIGN, which is the token `p`, on.
+fn reference(rules: Rules, p: Pulled) -> Result<Rules, Fault>
+    requires { p.end ≡ rules.at.at }
+    ensures value { RulesGo (λ text s. reference_from text s p) rules.entry result }
+    ensures falls { Fewer rules.entry result }
 {
-    if rules.references == 0 {
-        return Err(Fault::LimitPassed {
-            place: foreign.place,
-        });
-    }
-    let at = expect_keyword(text, Keyword::Key, foreign.end)?;
-    let at = argument_end(text, at)?;
-    let at = expect_keyword(text, Keyword::References, at)?;
-    let end = expect_name(text, at)?;
+    let references = p.take_from(rules.references)?;
+    let at = argument_end(rules.at.expect(Keyword::Key)?)?;
+    let at = at.expect(Keyword::References)?.expect(Word::Name)?;
     Ok(Rules {
-        end,
-        references: rules.references - 1,
-        checks: rules.checks,
+        at,
+        references,
         checked: false,
+        ..rules
     })
 }
 
-/// The place behind `<`, `=` or `>`.
-fn order_end(text: &[u8], at: usize) -> Result<usize, Fault>
-    ensures { result ≡ order_at text.now at }
+/// The reader behind `<`, `=` or `>`.
+fn order_end(at: Reader) -> Result<Reader, Fault>
+    ensures { Reads order_at at.entry result }
 {
-    let p = pull(text, at)?;
-    match p.word {
-        Word::Sign(Sign::Less | Sign::Equal | Sign::More) => Ok(p.end),
-        _ => Err(Fault::NotAllowed { place: p.place }),
-    }
+    let (p, behind) = at.pull()?;
+    p.must(matches!(p.word, Word::Sign(Sign::Less | Sign::Equal | Sign::More)))?;
+    Ok(behind)
 }
 
-/// The place behind a number.
-fn number_end(text: &[u8], at: usize) -> Result<usize, Fault>
-    ensures { result ≡ number_at text.now at }
+/// The reader behind a number.
+fn number_end(at: Reader) -> Result<Reader, Fault>
+    ensures { Reads number_at at.entry result }
 {
-    let p = pull(text, at)?;
-    match p.word {
-        Word::Number(_) => Ok(p.end),
-        _ => Err(Fault::NotAllowed { place: p.place }),
-    }
+    let (p, behind) = at.pull()?;
+    p.must(matches!(p.word, Word::Number(_)))?;
+    Ok(behind)
 }
 
-/// A check, from behind its attribute on.
-fn check(text: &[u8], rules: Rules, attribute: Pulled) -> Result<Rules, Fault>
-    ensures value { result ≡ check_from text.now rules attribute }
-    ensures falls { IfOk result (λ s. s.references + s.checks < rules.references + rules.checks) }
+/// A check, from behind its attribute, which is the token `p`, on.
+fn check(rules: Rules, p: Pulled) -> Result<Rules, Fault>
+    requires { p.end ≡ rules.at.at }
+    ensures value { RulesGo (λ text s. check_from text s p) rules.entry result }
+    ensures falls { Fewer rules.entry result }
 {
-    if rules.checks == 0 {
-        return Err(Fault::LimitPassed {
-            place: attribute.place,
-        });
-    }
-    let at = order_end(text, attribute.end)?;
-    let end = number_end(text, at)?;
+    let checks = p.take_from(rules.checks)?;
+    let at = number_end(order_end(rules.at)?)?;
     Ok(Rules {
-        end,
-        references: rules.references,
-        checks: rules.checks - 1,
+        at,
+        checks,
         checked: true,
+        ..rules
     })
 }
 
-/// One reference or check more, if a comma comes. References stand before checks.
-fn next_rule(text: &[u8], rules: Rules) -> Result<Option<Rules>, Fault>
-    ensures value { result ≡ rule_behind text.now rules }
-    ensures falls { IfOk result (λ o. IfSome o (λ s. s.references + s.checks < rules.references + rules.checks)) }
+/// The reference or check that begins with the token `p`, from behind it on. References stand before checks.
+fn rule(rules: Rules, p: Pulled) -> Result<Rules, Fault>
+    requires { p.end ≡ rules.at.at }
+    ensures { RulesOne (λ text s. rule_in text s p) rules.entry result }
 {
-    let p = pull(text, rules.end)?;
-    if !is_sign(p.word, Sign::Comma) {
+    if p.word == Word::Name {
+        return check(rules, p);
+    }
+    if p.word == Word::Keyword(Keyword::Foreign) && !rules.checked {
+        return reference(rules, p);
+    }
+    Err(Fault::NotAllowed { place: p.place })
+}
+
+/// One reference or check more, if a comma comes.
+fn next_rule(rules: Rules) -> Result<Option<Rules>, Fault>
+    ensures { RulesMore rule_behind rules.entry result }
+{
+    let (comma, behind) = rules.at.pull()?;
+    if comma.word != Word::Sign(Sign::Comma) {
         return Ok(None);
     }
-    let q = pull(text, p.end)?;
-    if let Word::Name = q.word {
-        return Ok(Some(check(text, rules, q)?));
-    }
-    if is_keyword(q.word, Keyword::Foreign) && !rules.checked {
-        return Ok(Some(reference(text, rules, q)?));
-    }
-    Err(Fault::NotAllowed { place: q.place })
+    let (p, at) = behind.pull()?;
+    Ok(Some(rule(Rules { at, ..rules }, p)?))
 }
 
 /// All references and checks of a table.
-fn rules_end(text: &[u8], rules: Rules) -> Result<Rules, Fault>
-    ensures { result ≡ rules_at text.now rules }
+fn rules_end(mut rules: Rules) -> Result<Rules, Fault>
+    ensures { RulesGo rules_at rules.entry result }
 {
-    let mut rules = rules;
-    while let Some(next) = next_rule(text, rules)? {
+    while let Some(next) = next_rule(rules)? {
         rules = next;
     }
     Ok(rules)
 }
 
 /// A table, from behind TABLE on, with how many references and checks the schema may still have.
-fn table(text: &[u8], at: usize, references: usize, checks: usize) -> Result<Rules, Fault>
-    ensures { result ≡ table_rest text.now at references checks }
+fn table(rules: Rules) -> Result<Rules, Fault>
+    ensures { RulesGo (λ text s. table_rest text s.end s.references s.checks) rules.entry result }
 {
-    let at = expect_name(text, at)?;
-    let at = expect_sign(text, Sign::Open, at)?;
-    let at = attributes_end(text, at)?;
-    let at = expect_sign(text, Sign::Comma, at)?;
-    let at = expect_keyword(text, Keyword::Primary, at)?;
-    let at = expect_keyword(text, Keyword::Key, at)?;
-    let end = argument_end(text, at)?;
-    let rules = rules_end(
-        text,
-        Rules {
-            end,
-            references,
-            checks,
-            checked: false,
-        },
-    )?;
-    let at = expect_sign(text, Sign::Close, rules.end)?;
-    let end = expect_sign(text, Sign::Semicolon, at)?;
-    Ok(Rules {
-        end,
-        references: rules.references,
-        checks: rules.checks,
+    let at = rules.at.expect(Word::Name)?.expect(Sign::Open)?;
+    let at = attributes_end(at)?.expect(Sign::Comma)?;
+    let at = argument_end(at.expect(Keyword::Primary)?.expect(Keyword::Key)?)?;
+    let rules = rules_end(Rules {
+        at,
         checked: false,
+        ..rules
+    })?;
+    let at = rules.at.expect(Sign::Close)?.expect(Sign::Semicolon)?;
+    Ok(Rules {
+        at,
+        checked: false,
+        ..rules
     })
 }
 
-/// How far the schema is read: the place behind it, and how many tables, references and checks may still come.
+/// How far the schema is read: how many tables may still come, and how far their references and checks are read.
 #[derive(Clone, Copy)]
-pub(crate) struct Schema {
-    pub end: usize,
+pub(crate) struct Schema<'a> {
     pub tables: usize,
-    pub references: usize,
-    pub checks: usize,
+    pub rules: Rules<'a>,
 }
 
 /// One table more, if one comes.
-fn next_table(text: &[u8], schema: Schema) -> Result<Option<Schema>, Fault>
-    ensures value { result ≡ table_behind text.now schema }
-    ensures falls { IfOk result (λ o. IfSome o (λ s. s.tables < schema.tables)) }
+fn next_table(schema: Schema) -> Result<Option<Schema>, Fault>
+    ensures { TablesMore table_behind schema.entry result }
 {
-    let p = pull(text, schema.end)?;
-    if !is_keyword(p.word, Keyword::Table) {
+    let (p, at) = schema.rules.at.pull()?;
+    if p.word != Word::Keyword(Keyword::Table) {
         return Ok(None);
     }
-    if schema.tables == 0 {
-        return Err(Fault::LimitPassed { place: p.place });
-    }
-    let rules = table(text, p.end, schema.references, schema.checks)?;
-    Ok(Some(Schema {
-        end: rules.end,
-        tables: schema.tables - 1,
-        references: rules.references,
-        checks: rules.checks,
-    }))
+    let tables = p.take_from(schema.tables)?;
+    let rules = table(Rules { at, ..schema.rules })?;
+    Ok(Some(Schema { tables, rules }))
 }
 
-/// The place behind all tables: at most 8, with at most 16 references and 16 checks.
-pub(crate) fn tables_end(text: &[u8], at: usize) -> Result<usize, Fault>
-    ensures { result ≡ tables_at text.now at }
+/// The reader behind all tables: at most 8, with at most 16 references and 16 checks.
+pub(crate) fn tables_end(at: Reader) -> Result<Reader, Fault>
+    ensures { Reads tables_at at.entry result }
 {
-    let mut schema = Schema {
-        end: at,
-        tables: 8,
+    let rules = Rules {
+        at,
         references: 16,
         checks: 16,
+        checked: false,
     };
-    while let Some(next) = next_table(text, schema)? {
+    let mut schema = Schema { tables: 8, rules };
+    while let Some(next) = next_table(schema)? {
         schema = next;
     }
-    Ok(schema.end)
+    Ok(schema.rules.at)
 }

@@ -19,8 +19,8 @@ use Rattle.terms.specs.Shapes.{operator_of, sides_of, given_by, serves, left_sid
 use Rattle.terms.specs.Terms.{Inner, closed_as, tail_of, operator_by, operator_at, is_lone, nil_in, nil_behind, right_side, binary, unary, opened, term_at}
 use Rattle.terms.specs.Trees.{Token, name, number, keyword, sign, Tree, literal, lone, head, cell, truth, is_nil, only, pair, words_of, given_in, shape_of, Sound, depth_of}
 use Rattle.terms.specs.Grammar.{Stands, goes_on, Ends, Completes}
-use Rattle.terms.proofs.Openings.{at_bracket, bracket_more}
-use Rattle.terms.proofs.Steps.{untrue, nothing, then_by, word_in, First, first, stands_split, sign_read, keyword_read, name_read}
+use Rattle.terms.proofs.Openings.{bracket_more}
+use Rattle.terms.proofs.Steps.{untrue, nothing, then_by, word_in, First, first, stands_split, sign_read, keyword_read, name_read, taken}
 use Rattle.terms.proofs.Accepting.{goes_by, goes_on_lem}
 
 closes : (text : List ℕ) (sh : Shape) (at e : ℕ) → Stands text at (sign Close ∷ []) e → closed_as text sh at ≡ Ok (sh, e)
@@ -104,7 +104,7 @@ signed text inner want s at ws e (inr p) f =
 
 in_bracket : (text : List ℕ) (d : ℕ) (want : Want) (at : ℕ) (ws : List Token) (e : ℕ) → 1 ≤ d → (f : First text at (sign Open) ws e) → term_at text d want at ≡ opened text (term_at text (d - 1)) want f.mid
 in_bracket text d want at ws e some f =
-    at_bracket text d want at f.place f.mid (sym f.pulls) ∙ bracket_more text d want f.place f.mid (λ z. omega arith)
+    sym (bracket_more text want at (record { word = word.Sign Open; place = f.place; end = f.mid }) (sym f.pulls) refl d (d - 1) (taken d _ some))
 
 no_nil : (text : List ℕ) (left : Shape) (s : Sign) (t : Tree) (at e : ℕ) → Stands text at (words_of t) e → nil_behind text left s at ≡ None
 no_nil text left s t at e st =

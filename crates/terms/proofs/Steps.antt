@@ -1,5 +1,5 @@
 -- The steps of the readers: what a token that came was, and that a token that stands there comes.
-use Rattle.std.proofs.Common.{◌≡◌, ℕ, Bool, true, false, cond, eqb, List, [], ◌∷◌, ◌++◌, length, Some, None, Ok, Err, Option, Result, sym, refl, ap, ◌∙◌, subst, arith}
+use Rattle.std.proofs.Common.{◌≡◌, ℕ, zero, suc, ◌-◌, ◌≤◌, Bool, true, false, cond, eqb, List, [], ◌∷◌, ◌++◌, length, Some, None, Ok, Err, Option, Result, sym, refl, ap, ◌∙◌, subst, arith}
 use Rattle.std.proofs.lemmas.Bool.{eqb-true, eq-eqb}
 use Rattle.faults.specs.declared.Fault.{Fault}
 use Rattle.faults.specs.declared.Fault.TheVariants.{NotAllowed}
@@ -13,7 +13,7 @@ use Rattle.lexer.specs.Lexing.{next_token, with_end}
 use Rattle.terms.specs.declared.pull.Word.{Word}
 use Rattle.terms.specs.declared.pull.Word.TheVariants as word
 use Rattle.terms.specs.declared.pull.Pulled.{Pulled}
-use Rattle.terms.specs.Pull.{word_of, or_refused, and_then, pulled, sign_number, keyword_number, is_sign, is_keyword, is_name, must, sign_at, keyword_at, name_at}
+use Rattle.terms.specs.Pull.{word_of, or_refused, and_then, pulled, taken_from, sign_number, keyword_number, is_sign, is_keyword, is_name, must, sign_at, keyword_at, name_at}
 use Rattle.terms.specs.Trees.{Token, name, number, keyword, sign}
 use Rattle.terms.specs.Grammar.{token_by, token_of, Stands}
 
@@ -235,3 +235,8 @@ keyword_read text k at ws e s = must_read text (is_keyword k) at (keyword k) ws 
 
 pub name_read : (text : List ℕ) (at : ℕ) (x : List ℕ) (ws : List Token) (e : ℕ) → Stands text at (name x ∷ ws) e → Goes text (name_at text at) ws e
 name_read text at x ws e s = must_read text is_name at (name x) ws e refl s
+
+-- Where one or more may come, one less may come behind.
+pub taken : (d : ℕ) (p : Pulled) → 1 ≤ d → Ok (d - 1) ≡ taken_from d p
+taken zero p h = absurd (omega arith)
+taken (suc d) p h = let e : suc d - 1 ≡ d = omega arith in ap Ok e

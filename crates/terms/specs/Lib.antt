@@ -1,4 +1,5 @@
 pub mod Pull
+pub mod Readers
 pub mod Shapes
 pub mod Terms
 pub mod Trees

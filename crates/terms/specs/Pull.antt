@@ -1,7 +1,7 @@
 -- A token that has to come.
-use Rattle.std.specs.Prelude.{ℕ, Bool, true, false, cond, List, length, Some, None, Ok, Err, Option, Result, ◌==◌}
+use Rattle.std.specs.Prelude.{ℕ, zero, suc, Bool, true, false, cond, List, length, Some, None, Ok, Err, Option, Result, ◌==◌}
 use Rattle.faults.specs.declared.Fault.{Fault}
-use Rattle.faults.specs.declared.Fault.TheVariants.{NotAllowed}
+use Rattle.faults.specs.declared.Fault.TheVariants.{NotAllowed, LimitPassed}
 use Rattle.lexer.specs.declared.keywords.Keyword as keywords
 use Rattle.lexer.specs.declared.keywords.Keyword.TheVariants as keyword_variants
 use Rattle.lexer.specs.declared.signs.Sign as signs
@@ -107,15 +107,41 @@ is_name (Number n) = false
 is_name (Keyword k) = false
 is_name (Sign s) = false
 
+-- A token is a number.
+abbrev pub is_number : ℕ → Word → Bool
+is_number n Name = false
+is_number n (Number m) = m == n
+is_number n (Keyword k) = false
+is_number n (Sign s) = false
+
+-- A token is this word.
+abbrev pub is_word : Word → (Word → Bool)
+is_word Name = is_name
+is_word (Number n) = is_number n
+is_word (Keyword k) = is_keyword k
+is_word (Sign s) = is_sign s
+
+-- A token that may not stand there is refused at its place.
+abbrev pub must_be : Bool → Pulled → Result (Unit {0}) Fault
+must_be fits p = cond fits (Ok tt) (Err (NotAllowed p.place))
+
+-- Where so many may come, one less may come behind a token; where none may, the token is refused at its place.
+abbrev pub taken_from : ℕ → Pulled → Result ℕ Fault
+taken_from zero p = Err (LimitPassed p.place)
+taken_from (suc n) p = Ok n
+
 -- A token of one sort has to stand there: the place behind it, or the refusal at its place.
 abbrev pub must : (Word → Bool) → Pulled → Result ℕ Fault
 must fits p = cond (fits p.word) (Ok p.end) (Err (NotAllowed p.place))
 
+abbrev pub word_at : List ℕ → Word → ℕ → Result ℕ Fault
+word_at text w at = and_then (pulled text at) (must (is_word w))
+
 abbrev pub sign_at : List ℕ → signs.Sign → ℕ → Result ℕ Fault
-sign_at text s at = and_then (pulled text at) (must (is_sign s))
+sign_at text s at = word_at text (Sign s) at
 
 abbrev pub keyword_at : List ℕ → keywords.Keyword → ℕ → Result ℕ Fault
-keyword_at text k at = and_then (pulled text at) (must (is_keyword k))
+keyword_at text k at = word_at text (Keyword k) at
 
 abbrev pub name_at : List ℕ → ℕ → Result ℕ Fault
-name_at text at = and_then (pulled text at) (must is_name)
+name_at text at = word_at text Name at

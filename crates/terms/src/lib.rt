@@ -2,5 +2,6 @@
 #![tactic(auto)]
 
 pub mod pull;
+pub mod reader;
 mod shapes;
 pub mod terms;

@@ -1,13 +1,11 @@
 //! What operators take and give.
 ghost use Rattle.std.specs.Prelude.{◌≡◌};
 ghost use Rattle.terms.specs.Shapes.{operator_of, sides_of, given_by, serves, left_side, inner_of, made_of};
-ghost use Rattle.terms.specs.Pull.{sign_number};
 
-use super::pull::{Word, is_sign};
 use lexer::signs::Sign;
 
 /// What a term is: a lone name, another expression, or a condition.
-#[derive(Clone, Copy)]
+#[derive(Clone, Copy, PartialEq, Eq)]
 pub enum Shape {
     Name,
     Value,
@@ -66,12 +64,10 @@ pub(crate) fn given_by(operator: Operator) -> Shape
 pub(crate) fn is_served(want: Want, shape: Shape) -> bool
     ensures { result ≡ serves want shape }
 {
-    match (want, shape) {
-        (Want::Either, _) => true,
-        (Want::Value, Shape::Name | Shape::Value) => true,
-        (Want::Truth, Shape::Truth) => true,
-        _ => false,
-    }
+    matches!(
+        (want, shape),
+        (Want::Either, _) | (Want::Value, Shape::Name | Shape::Value) | (Want::Truth, Shape::Truth)
+    )
 }
 
 /// What the left side in a bracket can be, where the bracket is asked for.
@@ -88,7 +84,7 @@ pub(crate) fn left_side(want: Want) -> Want
 pub(crate) fn inner_of(sign: Sign) -> Want
     ensures { result ≡ inner_of sign }
 {
-    if is_sign(Word::Sign(sign), Sign::Minus) {
+    if sign == Sign::Minus {
         Want::Value
     } else {
         Want::Truth
@@ -99,7 +95,7 @@ pub(crate) fn inner_of(sign: Sign) -> Want
 pub(crate) fn made_of(sign: Sign) -> Shape
     ensures { result ≡ made_of sign }
 {
-    if is_sign(Word::Sign(sign), Sign::Minus) {
+    if sign == Sign::Minus {
         Shape::Value
     } else {
         Shape::Truth

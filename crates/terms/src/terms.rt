@@ -2,9 +2,11 @@
 ghost use Rattle.std.specs.Prelude.{◌≡◌};
 ghost use Rattle.terms.specs.Grammar.{Accepts, Completes};
 ghost use Rattle.terms.specs.Pull.{pulled};
+ghost use Rattle.terms.specs.Readers.{ReadsIf, ReadsWith, ReadsWithTwo};
 ghost use Rattle.terms.specs.Terms.{closed_as, operator_at, nil_behind, tail_of, unary, binary, opened, term_at};
 
-use super::pull::{Word, expect_keyword, expect_name, expect_sign, is_keyword, is_sign, pull};
+use super::pull::{Pulled, Word};
+use super::reader::Reader;
 use super::shapes::{
     Operator, given_by, inner_of, is_served, left_side, made_of, operator_of, sides_of,
 };
@@ -14,137 +16,108 @@ use lexer::keywords::Keyword;
 use lexer::signs::Sign;
 
 /// The closing bracket of a term of a shape.
-fn close(text: &[u8], shape: Shape, at: usize) -> Result<(Shape, usize), Fault>
-    ensures { result ≡ closed_as text.now shape at }
+fn close(at: Reader, shape: Shape) -> Result<(Shape, Reader), Fault>
+    ensures { ReadsWith (λ text from. closed_as text shape from) at.entry result }
 {
-    let end = expect_sign(text, Sign::Close, at)?;
-    Ok((shape, end))
+    Ok((shape, at.expect(Sign::Close)?))
 }
 
 /// The operator behind a left side.
-fn operator(
-    text: &[u8],
-    want: Want,
-    left: Shape,
-    at: usize,
-) -> Result<(Operator, Sign, usize), Fault>
-    ensures { result ≡ operator_at text.now want left at }
+fn operator(at: Reader, want: Want, left: Shape) -> Result<(Operator, Sign, Reader), Fault>
+    ensures { ReadsWithTwo (λ text from. operator_at text want left from) at.entry result }
 {
-    let p = pull(text, at)?;
+    let (p, behind) = at.pull()?;
     let Word::Sign(sign) = p.word else {
         return Err(Fault::NotAllowed { place: p.place });
     };
     let Some(operator) = operator_of(sign) else {
         return Err(Fault::NotAllowed { place: p.place });
     };
-    if is_served(sides_of(operator), left) && is_served(want, given_by(operator)) {
-        return Ok((operator, sign, p.end));
-    }
-    Err(Fault::NotAllowed { place: p.place })
+    p.must(is_served(sides_of(operator), left) && is_served(want, given_by(operator)))?;
+    Ok((operator, sign, behind))
 }
 
-/// The place behind NIL, where it stands behind a lone name and an equals sign.
-fn nil_behind(text: &[u8], left: Shape, sign: Sign, at: usize) -> Option<usize>
-    ensures { result ≡ nil_behind text.now left sign at }
+/// The reader behind NIL, where it stands behind a lone name and an equals sign.
+fn nil_behind(at: Reader, left: Shape, sign: Sign) -> Option<Reader>
+    ensures { ReadsIf (λ text from. nil_behind text left sign from) at.entry result }
 {
-    let Shape::Name = left else {
-        return None;
-    };
-    if !is_sign(Word::Sign(sign), Sign::Equal) {
+    if left != Shape::Name || sign != Sign::Equal {
         return None;
     }
-    match pull(text, at) {
-        Ok(p) if is_keyword(p.word, Keyword::Nil) => Some(p.end),
-        _ => None,
-    }
+    at.expect(Keyword::Nil).ok()
 }
 
 /// What follows a name: `.HEAD`, `(a)`, or nothing that belongs to it.
-fn name_tail(text: &[u8], at: usize) -> Result<(Shape, usize), Fault>
-    ensures { result ≡ tail_of text.now at (pulled text.now at) }
+fn name_tail(at: Reader) -> Result<(Shape, Reader), Fault>
+    ensures { ReadsWith (λ text from. tail_of text from (pulled text from)) at.entry result }
 {
-    let Ok(p) = pull(text, at) else {
+    let Ok((p, behind)) = at.pull() else {
         return Ok((Shape::Name, at));
     };
-    if is_sign(p.word, Sign::Dot) {
-        let end = expect_keyword(text, Keyword::Head, p.end)?;
-        return Ok((Shape::Value, end));
+    match p.word {
+        Word::Sign(Sign::Dot) => Ok((Shape::Value, behind.expect(Keyword::Head)?)),
+        Word::Sign(Sign::Open) => close(behind.expect(Word::Name)?, Shape::Value),
+        _ => Ok((Shape::Name, at)),
     }
-    if is_sign(p.word, Sign::Open) {
-        let end = expect_name(text, p.end)?;
-        return close(text, Shape::Value, end);
-    }
-    Ok((Shape::Name, at))
 }
 
-/// What a bracket holds behind `-` or `!`, which stands at `place`.
-#[cycle(binary_rest_bracket_read_term_unary_rest)]
+/// What a bracket holds behind `-` or `!`, which is the token `p`.
+#[cycle(terms)]
 fn unary_rest(
-    text: &[u8],
+    at: Reader,
     want: Want,
     sign: Sign,
-    place: usize,
-    at: usize,
+    p: Pulled,
     depth: usize,
-) -> Result<(Shape, usize), Fault>
-    ensures { result ≡ unary text.now (term_at text.now depth) want sign place at }
+) -> Result<(Shape, Reader), Fault>
+    ensures { ReadsWith (λ text from. unary text (term_at text depth) want sign p.place from) at.entry result }
 {
     let shape = made_of(sign);
-    if !is_served(want, shape) {
-        return Err(Fault::NotAllowed { place });
-    }
-    let (_, end) = read_term(text, inner_of(sign), at, depth)?;
-    close(text, shape, end)
+    p.must(is_served(want, shape))?;
+    let (_, at) = read_term(at, inner_of(sign), depth)?;
+    close(at, shape)
 }
 
 /// What a bracket holds that has two sides.
-#[cycle(binary_rest_bracket_read_term_unary_rest)]
-fn binary_rest(text: &[u8], want: Want, at: usize, depth: usize) -> Result<(Shape, usize), Fault>
-    ensures { result ≡ binary text.now (term_at text.now depth) want at }
+#[cycle(terms)]
+fn binary_rest(at: Reader, want: Want, depth: usize) -> Result<(Shape, Reader), Fault>
+    ensures { ReadsWith (λ text from. binary text (term_at text depth) want from) at.entry result }
 {
-    let (left, after) = read_term(text, left_side(want), at, depth)?;
-    let (operator, sign, next) = operator(text, want, left, after)?;
-    if let Some(end) = nil_behind(text, left, sign, next) {
-        return close(text, Shape::Truth, end);
+    let (left, at) = read_term(at, left_side(want), depth)?;
+    let (operator, sign, at) = operator(at, want, left)?;
+    if let Some(at) = nil_behind(at, left, sign) {
+        return close(at, Shape::Truth);
     }
-    let (_, end) = read_term(text, sides_of(operator), next, depth)?;
-    close(text, given_by(operator), end)
+    let (_, at) = read_term(at, sides_of(operator), depth)?;
+    close(at, given_by(operator))
 }
 
 /// What follows an opening bracket.
-#[cycle(binary_rest_bracket_read_term_unary_rest)]
-fn bracket(text: &[u8], want: Want, at: usize, depth: usize) -> Result<(Shape, usize), Fault>
-    ensures { result ≡ opened text.now (term_at text.now depth) want at }
+#[cycle(terms)]
+fn bracket(at: Reader, want: Want, depth: usize) -> Result<(Shape, Reader), Fault>
+    ensures { ReadsWith (λ text from. opened text (term_at text depth) want from) at.entry result }
 {
-    let p = pull(text, at)?;
-    if is_sign(p.word, Sign::Minus) {
-        return unary_rest(text, want, Sign::Minus, p.place, p.end, depth);
+    let (p, behind) = at.pull()?;
+    match p.word {
+        Word::Sign(sign @ (Sign::Minus | Sign::Not)) => unary_rest(behind, want, sign, p, depth),
+        _ => binary_rest(at, want, depth),
     }
-    if is_sign(p.word, Sign::Not) {
-        return unary_rest(text, want, Sign::Not, p.place, p.end, depth);
-    }
-    binary_rest(text, want, at, depth)
 }
 
-/// An expression or a condition with at most `depth` brackets, one in another: its shape and the place behind it.
-#[cycle(binary_rest_bracket_read_term_unary_rest)]
-pub fn read_term(text: &[u8], want: Want, at: usize, depth: usize) -> Result<(Shape, usize), Fault>
-    ensures { result ≡ term_at text.now depth want at }
+/// An expression or a condition with at most `depth` brackets, one in another: its shape and the reader behind it.
+#[cycle(terms)]
+pub fn read_term(at: Reader, want: Want, depth: usize) -> Result<(Shape, Reader), Fault>
+    ensures { ReadsWith (λ text from. term_at text depth want from) at.entry result }
 {
-    let p = pull(text, at)?;
+    let (p, behind) = at.pull()?;
     match p.word {
-        Word::Name if is_served(want, Shape::Name) => name_tail(text, p.end),
-        Word::Number(_) if is_served(want, Shape::Value) => Ok((Shape::Value, p.end)),
+        Word::Name if is_served(want, Shape::Name) => name_tail(behind),
+        Word::Number(_) if is_served(want, Shape::Value) => Ok((Shape::Value, behind)),
         Word::Keyword(Keyword::True | Keyword::False) if is_served(want, Shape::Truth) => Ok((
             Shape::Truth,
-            p.end,
+            behind,
         )),
-        Word::Sign(Sign::Open) => {
-            if depth == 0 {
-                return Err(Fault::LimitPassed { place: p.place });
-            }
-            bracket(text, want, p.end, depth - 1)
-        }
+        Word::Sign(Sign::Open) => bracket(behind, want, p.take_from(depth)?),
         _ => Err(Fault::NotAllowed { place: p.place }),
     }
 }

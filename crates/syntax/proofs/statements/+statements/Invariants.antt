@@ -1,6 +1,7 @@
 use Rattle.std.proofs.Common.{suc, ◌+◌, ◌*◌, ◌≤◌}
+use Rattle.syntax.specs.States.{place_of, room_of}
 use Rattle.syntax.specs.Statements.{holding, statement_by}
-use Rattle.syntax.proofs.Repeating.{Going}
+use Rattle.syntax.proofs.Loops.{Loop}
 use Rattle.syntax.proofs.statements.+statements.Given as goal
 
 abbrev pub decreases-read_holder : goal.decreases-read_holder
@@ -23,7 +24,8 @@ decreases-read_loop l = 5 * l.depth + 4
 
 abbrev pub invariant-read_block-loop-next : goal.invariant-read_block-loop-next
 invariant-read_block-loop-next l =
-    (l.left ≤ l.room) × Going (statement_by l.text (holding l.text l.depth)) (λ s. s.1) (suc l.room) (l.at, l.room) (l.end, l.left)
+    (l.state.room ≤ l.fn.state.room)
+    × Loop (λ r. r.at) place_of room_of (λ text s. statement_by text (holding text l.depth) s) l.fn.state.at.text.now (suc l.fn.state.room) (place_of l.fn.state) l.state
 
 abbrev pub decreases-read_block-loop-next : goal.decreases-read_block-loop-next
-decreases-read_block-loop-next l = l.left
+decreases-read_block-loop-next l = l.state.room

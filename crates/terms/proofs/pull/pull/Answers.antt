@@ -14,7 +14,7 @@ pub returns-in-Some : goal.returns-in-Some
 unfolding pulled
 returns-in-Some c =
     let next = ap (λ o. Ok (option_read o)) (sym c.in-Some.is) ∙ c.in_ok-token.ensures.value in
-    ap (λ w. Ok (record { word = w; place = c.part-place.result.place; end = c.in-Some.end })) c.word_of-word.ensures
+    ap (λ w. Ok (record { word = w; place = c.part-place.result.place; end = c.in-Some.end })) c.from-word.ensures
     ∙ ap (λ p. Ok (record { word = word_of (lexeme_of c.in-Some.token).kind; place = p; end = c.in-Some.end })) c.part-place.ensures.place
     ∙ ap (λ r. and_then r (or_refused (length c.args.text.now))) next
 

@@ -1,5 +1,5 @@
 use Rattle.std.proofs.Common.{◌+◌, ◌*◌}
-use Rattle.terms.proofs.terms.+binary_rest_bracket_read_term_unary_rest.Given as goal
+use Rattle.terms.proofs.terms.+terms.Given as goal
 
 abbrev pub decreases-binary_rest : goal.decreases-binary_rest
 decreases-binary_rest l = 3 * l.depth + 1
