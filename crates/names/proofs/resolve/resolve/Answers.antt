@@ -1,11 +1,10 @@
 use Rattle.std.proofs.Common.{◌∙◌}
-use Rattle.std.proofs.lemmas.List.{at_drop_all}
 use Rattle.names.specs.Schema.{decl_of}
-use Rattle.names.specs.Binding.{names_of, bound_from}
+use Rattle.names.specs.Binding.{names_of}
+use Rattle.names.proofs.Steps.{none_left}
 use Rattle.names.proofs.resolve.resolve.Goals as goal
 
 pub returns : goal.returns
-unfolding bound_from
 returns c =
-    c.loop-at.invariant.0
-    ∙ at_drop_all (bound_from c.args.text.now (decl_of c.args.tables.now) c.loop-at.scope (names_of c.loop-at.names)) c.args.parts.now c.loop-at.at c.loop-at-test.false
+    c.loop-part.invariant.same
+    ∙ none_left (decl_of c.args.schema.now) c.loop-part.scope (names_of c.loop-part.names) c.loop-part.left.now c.in_default.ensures.cases
