@@ -110,6 +110,7 @@ impl Names {
 }
 
 /// Binds the names of all parts: the variables in the order of their first use, at most 32, and what each part is bound to.
+#[tactic(auto, using(crate::proofs::Steps::none_left))]
 pub fn resolve(heap: Global, schema: &Schema, parts: &[Part]) -> Result<Names, Fault>
     ensures { MatchResult result (λ v. bound_in (decl_of schema.now) parts.now ≡ Ok (names_of v)) (λ f. Fails f (bound_in (decl_of schema.now) parts.now)) }
 {

@@ -85,8 +85,8 @@ impl Schema<'_> {
     fn grow(&mut self, field: Name) -> Result<(), Fault>
         ensures { MatchResult result (λ _. decl_of self.new ≡ grown (decl_of self.old) field) (λ f. f ≡ Memory) }
     {
-        if let Some(last) = self.tables.len().checked_sub(1) {
-            self.tables[last].fields.push(field)?;
+        if let Some(table) = self.tables.last_mut() {
+            table.fields.push(field)?;
         }
         Ok(())
     }
@@ -95,8 +95,7 @@ impl Schema<'_> {
     fn set_key(&mut self, name: Name)
         ensures { decl_of self.new ≡ keyed (decl_of self.old) name }
     {
-        if let Some(last) = self.tables.len().checked_sub(1) {
-            let table = &mut self.tables[last];
+        if let Some(table) = self.tables.last_mut() {
             table.key = place_among(self.text, table.fields.as_slice(), name);
         }
     }
