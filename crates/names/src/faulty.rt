@@ -187,6 +187,7 @@ impl Bindings<'_> {
     }
 
     /// The place of the first name at fault; each part goes with what it is bound to.
+    #[tactic(auto, using(crate::proofs::Looking::looked, crate::proofs::Looking::none_left, crate::proofs::Looking::all_bound))]
     pub fn first_wrong(&self, parts: &[Part]) -> Option<usize>
         ensures { result ≡ wrong_in (decl_of self.now.schema.now) (names_of self.now.names.now) parts.now }
     {

@@ -49,6 +49,7 @@ fn count_table(scope: Scope, role: Role) -> Scope
 
 impl Names {
     /// Binds the parts of a clause, up to the semicolon that ends it; gives the parts behind.
+    #[tactic(auto, using(crate::proofs::Steps::none_left))]
     fn bind_rest<'a>(
         &mut self,
         schema: &Schema,

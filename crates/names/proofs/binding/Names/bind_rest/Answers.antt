@@ -2,8 +2,7 @@ use Rattle.std.proofs.Common.{true, false, sym, ap, ◌∙◌, arith}
 use Rattle.std.proofs.lemmas.Result.{err_from_is_err_and}
 use Rattle.names.specs.Schema.{decl_of}
 use Rattle.names.specs.Binding.{names_of, bound_from}
-use Rattle.names.specs.Onward.{left_of}
-use Rattle.names.proofs.Steps.{fails_same, bound_ok, bound_fails, none_left, lasts}
+use Rattle.names.proofs.Steps.{fails_same, bound_ok, bound_fails, lasts}
 use Rattle.names.proofs.binding.Names.bind_rest.Goals as goal
 
 pub returns-in_err-bind : goal.returns-in_err-bind
@@ -41,15 +40,4 @@ loop-part-preserved c =
     record {
       same = c.loop-part.invariant.same ∙ ap (bound_from d sc s) c.in-Some.ensures.cases.0 ∙ bound_ok d sc s p ps t c.in_ok-bind.ensures ∙ ap (λ z. bound_from d z t ps) after;
       shorter = omega (arith, c.in-Some.ensures.cases.1);
-    }
-
-pub returns : goal.returns
-returns c =
-    let d = decl_of c.args.schema.now in
-    let s = names_of c.loop-part.self in
-    let ps = c.loop-part.left.now in
-    let none = c.in_default.ensures.cases in
-    record {
-      same = c.loop-part.invariant.same ∙ none_left d c.args.scope s ps none ∙ sym (none_left d (left_of c.args.scope) s ps none);
-      shorter = c.loop-part.invariant.shorter;
     }

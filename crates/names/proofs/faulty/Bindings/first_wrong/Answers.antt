@@ -4,15 +4,8 @@ use Rattle.names.specs.Schema.{decl_of}
 use Rattle.names.specs.Scopes.{table_is}
 use Rattle.names.specs.Binding.{names_of}
 use Rattle.names.specs.Faults.{field_is, wrong_from}
-use Rattle.names.proofs.Looking.{looked, none_left, all_bound, few_tables, few_fields}
+use Rattle.names.proofs.Looking.{looked, few_tables, few_fields}
 use Rattle.names.proofs.faulty.Bindings.first_wrong.Goals as goal
-
-pub returns-in_err-part : goal.returns-in_err-part
-returns-in_err-part c =
-    let s = names_of c.args.self.now.names.now in
-    c.from_residual.ensures
-    ∙ sym (none_left (decl_of c.args.self.now.schema.now) s.variables c.loop-bound.spot c.loop-bound.left.now (drop c.loop-bound.bound-index s.bounds) c.in_err-part.ensures.cases)
-    ∙ c.loop-bound.invariant.same
 
 pub returns-then-is_wrong : goal.returns-then-is_wrong
 returns-then-is_wrong c =
@@ -46,13 +39,3 @@ loop-bound-preserved c =
       tables = subst (λ t. t.tables ≤ i + 1) (sym c.after-spot.ensures) (few_tables (table_is p.role) s.tables i c.loop-bound.invariant.tables);
       fields = subst (λ t. t.fields ≤ i + 1) (sym c.after-spot.ensures) (few_fields (table_is p.role) (field_is p.role) s.fields i c.loop-bound.invariant.fields);
     }
-
-pub returns : goal.returns
-returns c =
-    let d = decl_of c.args.self.now.schema.now in
-    let vs = (names_of c.args.self.now.names.now).variables in
-    let i = c.loop-bound.bound-index in
-    let left = c.loop-bound.left.now in
-    sym (all_bound d vs c.loop-bound.spot left c.as_slice-bound-items.result.now i c.loop-bound-test.false)
-    ∙ ap (λ bs. wrong_from d vs c.loop-bound.spot left (drop i bs)) c.as_slice-bound-items.ensures.value
-    ∙ c.loop-bound.invariant.same
