@@ -1,6 +1,7 @@
 //! What the next name of a model would be, told by the tokens before it.
-ghost use Rattle.std.specs.Prelude.{◌≡◌, ◌+◌, ◌^◌, ◌<◌, slice_get};
-ghost use Rattle.roles.specs.Roles.{words, at, is_tail, target_use, term_use, name_role, role_of, after_keyword, after_name, onward};
+ghost use Rattle.std.specs.Prelude.{◌≡◌, unwrap_or, slice_get};
+ghost use Rattle.terms.specs.declared.pull.Word.TheVariants.{Number};
+ghost use Rattle.roles.specs.Roles.{words, is_tail, target_use, term_use, name_role, role_of, after_keyword, after_name, onward};
 
 use super::role::{Access, Column, Declared, Role, Use};
 use lexer::keywords::Keyword;
@@ -55,13 +56,11 @@ fn peek(behind: &[Pulled], steps: usize) -> Option<Word>
     behind.get(steps).map(|token| token.word)
 }
 
-/// Whether `. TAIL` stands so many tokens behind.
-fn is_tail(behind: &[Pulled], steps: usize) -> bool
-    requires { steps + 1 < 2 ^ 64 }
-    ensures { result ≡ is_tail (at (words behind.now) steps) (at (words behind.now) (steps + 1)) }
+/// Whether two words are `. TAIL`.
+fn is_tail(first: Option<Word>, second: Option<Word>) -> bool
+    ensures { result ≡ is_tail (unwrap_or first (Number 0)) (unwrap_or second (Number 0)) }
 {
-    peek(behind, steps) == Some(Word::Sign(Sign::Dot))
-        && peek(behind, steps + 1) == Some(Word::Keyword(Keyword::Tail))
+    first == Some(Word::Sign(Sign::Dot)) && second == Some(Word::Keyword(Keyword::Tail))
 }
 
 /// How a statement that begins with a variable uses it, by the tokens behind it.
@@ -75,7 +74,7 @@ fn target_use(behind: &[Pulled]) -> Use
         Some(Word::Keyword(Keyword::Nil)) => Use::Clear,
         Some(Word::Keyword(Keyword::Select)) => Use::Select,
         Some(Word::Keyword(Keyword::Catch)) => Use::Catch,
-        Some(Word::Name) if is_tail(behind, 2) => Use::Tail,
+        Some(Word::Name) if is_tail(peek(behind, 2), peek(behind, 3)) => Use::Tail,
         _ => Use::Assign,
     }
 }
@@ -84,15 +83,15 @@ fn target_use(behind: &[Pulled]) -> Use
 fn term_use(behind: &[Pulled]) -> Use
     ensures { result ≡ term_use (words behind.now) }
 {
-    if is_tail(behind, 0) {
+    let first = peek(behind, 0);
+    let second = peek(behind, 1);
+    if is_tail(first, second) {
         return Use::Of;
     }
-    match peek(behind, 0) {
+    match first {
         Some(Word::Sign(Sign::Dot)) => Use::Head,
         Some(Word::Sign(Sign::Open)) => Use::Cursor,
-        Some(Word::Sign(Sign::Equal)) if peek(behind, 1) == Some(Word::Keyword(Keyword::Nil)) => {
-            Use::Nil
-        }
+        Some(Word::Sign(Sign::Equal)) if second == Some(Word::Keyword(Keyword::Nil)) => Use::Nil,
         _ => Use::Lone,
     }
 }
