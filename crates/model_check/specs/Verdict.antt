@@ -39,9 +39,9 @@ unless_wrong None a = Ok a
 -- form, and then the first name at fault.
 abbrev pub named_within : List ℕ → Result Names Fault
 named_within text =
-    and_then (bound_in text (declared_by text) (parts_in text)) (λ s.
+    and_then (bound_in (declared_by text) (parts_in text)) (λ s.
     and_then (form_of text) (λ u.
-    unless_wrong (wrong_in text (declared_by text) s (parts_in text)) s))
+    unless_wrong (wrong_in (declared_by text) s (parts_in text)) s))
 
 -- A text of more than 16,384 bytes is refused before all else.
 abbrev pub named : List ℕ → Result Names Fault

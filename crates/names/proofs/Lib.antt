@@ -1,2 +1,3 @@
-mod Spelling
+pub mod Tables
 mod Steps
+mod Looking

@@ -1,104 +1,105 @@
 -- The tables of a model by their names.
-use Rattle.std.specs.Prelude.{ℕ, zero, suc, ◌+◌, ◌-◌, List, [], ◌∷◌, ◌++◌, length, take, drop, vec_items, Option, slice_index_or, slice_set}
-use Rattle.std.specs.Option.{unwrap_or}
-use Rattle.terms.specs.declared.pull.Word.TheVariants as word
+use Rattle.std.specs.Prelude.{ℕ, zero, suc, ◌+◌, ◌-◌, List, [], ◌∷◌, ◌++◌, map, length, Some, None, Option, vec_items, position, option_map, slice_set}
+use Rattle.std.specs.List.{slice_get}
+use Rattle.lexer.specs.declared.name.Name.{Name}
 use Rattle.roles.specs.declared.role.Declared.{Declared}
 use Rattle.roles.specs.declared.role.Declared.TheVariants as declares
 use Rattle.roles.specs.declared.role.Role.{Role}
 use Rattle.roles.specs.declared.role.Role.TheVariants as role
 use Rattle.roles.specs.declared.role.Part.{Part}
-use Rattle.names.specs.declared.name.Name.{Name}
-use Rattle.names.specs.declared.schema.Shape.{Shape}
-use Rattle.names.specs.declared.schema.Tables.{Tables}
-use Rattle.names.specs.Spelled.{place_among}
+use Rattle.roles.specs.Roles.{name_of}
+use Rattle.names.specs.declared.schema.Table as code
+use Rattle.names.specs.declared.schema.Schema.{Schema}
+use Rattle.names.specs.Spelled.{same_name, place_among}
 
--- The tables declared so far, in the order of the text: their names, the names of all attributes, and their shapes.
-pub record Decl : Type 0 where
-  pub titles : List Name
+-- A table: its name, the names of its attributes, and which of these is its key.
+pub record Table : Type 0 where
+  pub title : Name
   pub fields : List Name
-  pub shapes : List Shape
+  pub key : Option ℕ
 
-abbrev pub decl_of : Tables → Decl
-decl_of t = record { titles = vec_items t.titles; fields = vec_items t.fields; shapes = vec_items t.shapes }
+-- The tables declared so far, in the order of the text, and the text that their names stand in.
+pub record Decl : Type 0 where
+  pub text : List ℕ
+  pub tables : List Table
 
--- No table.
-abbrev pub no_shape : Shape
-no_shape = record { first = 0; width = 0; key = 0 }
+abbrev pub table_of : code.Table → Table
+table_of t = record { title = t.title; fields = vec_items t.fields; key = t.key }
+
+abbrev pub decl_of : Schema → Decl
+decl_of s = record { text = s.text.now; tables = map table_of (vec_items s.tables) }
+
+-- A number counted from 1 for what stands at a place from 0.
+abbrev pub counted : Option ℕ → Option ℕ
+counted o = option_map (λ i. i + 1) o
+
+-- The number of the table with a name, if one has it; of two with one name the first.
+abbrev pub table_number : Decl → Name → Option ℕ
+table_number d n = counted (position (λ t. same_name d.text t.title n) d.tables)
+
+-- The table of a number that is counted from 1, if there is one.
+abbrev pub table_numbered : Decl → ℕ → Option Table
+table_numbered d zero = None
+table_numbered d (suc t) = slice_get d.tables t
+
+-- The attributes of a table; no table has none.
+abbrev pub fields_in : Option Table → List Name
+fields_in None = []
+fields_in (Some t) = t.fields
+
+abbrev pub fields_of : Decl → ℕ → List Name
+fields_of d t = fields_in (table_numbered d t)
+
+-- The place of a name among the attributes of table t.
+abbrev pub field_place : Decl → ℕ → Name → Option ℕ
+field_place d t n = place_among d.text (fields_of d t) n
 
 -- TABLE t: one table more, with no attribute yet.
 abbrev pub begun : Decl → Name → Decl
-begun d n = record {
-  titles = d.titles ++ n ∷ [];
-  fields = d.fields;
-  shapes = d.shapes ++ record { first = length d.fields; width = 0; key = 0 } ∷ [];
-}
+begun d n = record { text = d.text; tables = d.tables ++ record { title = n; fields = []; key = None } ∷ [] }
 
--- The shape of the table declared last.
-abbrev pub last_of : List Shape → Shape
-last_of ss = slice_index_or ss (length ss - 1) no_shape
+-- The table declared last, if there is one, is changed.
+abbrev pub last_as : (Table → Table) → List Table → Option Table → List Table
+last_as f ts None = ts
+last_as f ts (Some t) = slice_set ts (length ts - 1) (f t)
 
--- The table declared last, with another shape.
-abbrev pub reshaped : List Shape → (Shape → Shape) → List Shape
-reshaped ss f = slice_set ss (length ss - 1) (f (last_of ss))
+abbrev pub last_changed : (Table → Table) → Decl → Decl
+last_changed f d = record { text = d.text; tables = last_as f d.tables (slice_get d.tables (length d.tables - 1)) }
 
 -- One attribute more of the table declared last.
-abbrev pub widened : ℕ → Shape → Shape
-widened n s = record { first = s.first; width = n - s.first; key = s.key }
+abbrev pub widened : Name → Table → Table
+widened n t = record { title = t.title; fields = t.fields ++ n ∷ []; key = t.key }
 
 abbrev pub grown : Decl → Name → Decl
-grown d n = record { titles = d.titles; fields = d.fields ++ n ∷ []; shapes = reshaped d.shapes (widened (length d.fields + 1)) }
-
--- The attributes of a table.
-abbrev pub fields_of : Decl → Shape → List Name
-fields_of d s = take s.width (drop s.first d.fields)
-
--- The shape of table t, which is counted from 1; no other number has attributes.
-abbrev pub shape_of : Decl → ℕ → Shape
-shape_of d zero = no_shape
-shape_of d (suc t) = slice_index_or d.shapes t no_shape
-
--- The place of a name among the attributes of table t.
-abbrev pub field_place : List ℕ → Decl → ℕ → Name → Option ℕ
-field_place text d t n = place_among text (fields_of d (shape_of d t)) n
+grown d n = last_changed (widened n) d
 
 -- PRIMARY KEY(a): the key of the table declared last.
-abbrev pub keyed_as : ℕ → Shape → Shape
-keyed_as k s = record { first = s.first; width = s.width; key = k }
+abbrev pub keyed_by : List ℕ → Name → Table → Table
+keyed_by text n t = record { title = t.title; fields = t.fields; key = place_among text t.fields n }
 
-abbrev pub keyed : List ℕ → Decl → Name → Decl
-keyed text d n = record {
-  titles = d.titles;
-  fields = d.fields;
-  shapes = reshaped d.shapes (keyed_as (unwrap_or (place_among text (fields_of d (last_of d.shapes)) n) 0));
-}
+abbrev pub keyed : Decl → Name → Decl
+keyed d n = last_changed (keyed_by d.text n) d
 
--- No part.
-abbrev pub no_part : Part
-no_part = record { role = role.Plain; word = word.Name; place = 0; end = 0 }
+abbrev pub declared_as : Decl → Name → Declared → Decl
+declared_as d n declares.Table = begun d n
+declared_as d n declares.Field = grown d n
+declared_as d n declares.Key = keyed d n
+declared_as d n declares.Foreign = d
+declared_as d n declares.References = d
+declared_as d n declares.Check = d
 
-abbrev pub name_of : Part → Name
-name_of p = record { place = p.place; end = p.end }
-
-abbrev pub declared_as : List ℕ → Decl → Name → Declared → Decl
-declared_as text d n declares.Table = begun d n
-declared_as text d n declares.Field = grown d n
-declared_as text d n declares.Key = keyed text d n
-declared_as text d n declares.Foreign = d
-declared_as text d n declares.References = d
-declared_as text d n declares.Check = d
-
-abbrev pub declared_by : List ℕ → Decl → Name → Role → Decl
-declared_by text d n role.Plain = d
-declared_by text d n role.Title = d
-declared_by text d n (role.Declared a) = declared_as text d n a
-declared_by text d n (role.Variable u) = d
-declared_by text d n (role.Table a) = d
-declared_by text d n (role.Attribute a) = d
+abbrev pub declared_by : Decl → Name → Role → Decl
+declared_by d n role.Plain = d
+declared_by d n role.Title = d
+declared_by d n (role.Declared a) = declared_as d n a
+declared_by d n (role.Variable u) = d
+declared_by d n (role.Table a) = d
+declared_by d n (role.Attribute a) = d
 
 -- What the parts of a text declare, one after another.
-unfoldable pub declared_from : List ℕ → Decl → List Part → Decl
-declared_from text d [] = d
-declared_from text d (p ∷ ps) = declared_from text (declared_by text d (name_of p) p.role) ps
+unfoldable pub declared_from : Decl → List Part → Decl
+declared_from d [] = d
+declared_from d (p ∷ ps) = declared_from (declared_by d (name_of p) p.role) ps
 
 abbrev pub declared_in : List ℕ → List Part → Decl
-declared_in text ps = declared_from text (record { titles = []; fields = []; shapes = [] }) ps
+declared_in text ps = declared_from (record { text = text; tables = [] }) ps

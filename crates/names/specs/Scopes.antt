@@ -1,5 +1,6 @@
 -- Where a name stands, and which clause's table hides lone variables there.
-use Rattle.std.specs.Prelude.{ℕ, ◌+◌, Bool, true, false, cond, List, [], ◌∷◌, replicate, Some, None, Option, nat_lt, slice_set}
+use Rattle.std.specs.Prelude.{ℕ, zero, suc, ◌+◌, Bool, true, false, cond, List, [], ◌∷◌, replicate, Some, None, Option, find, nat_lt, slice_set}
+use Rattle.lexer.specs.declared.name.Name.{Name}
 use Rattle.lexer.specs.declared.signs.Sign.TheVariants.{Semicolon}
 use Rattle.terms.specs.Pull.{is_sign}
 use Rattle.roles.specs.declared.role.Declared.TheVariants as declares
@@ -9,20 +10,21 @@ use Rattle.roles.specs.declared.role.Column.TheVariants as column
 use Rattle.roles.specs.declared.role.Role.{Role}
 use Rattle.roles.specs.declared.role.Role.TheVariants as role
 use Rattle.roles.specs.declared.role.Part.{Part}
-use Rattle.names.specs.declared.name.Name.{Name}
+use Rattle.roles.specs.Roles.{name_of}
+use Rattle.names.specs.declared.scope.Clause.{Clause}
 use Rattle.names.specs.declared.scope.Scope.{Scope}
 use Rattle.names.specs.declared.scope.Choice.{Choice}
-use Rattle.names.specs.Spelled.{place_among}
-use Rattle.names.specs.Schema.{Decl, name_of, field_place}
+use Rattle.names.specs.Schema.{Decl, table_number, field_place}
 
--- A number counted from 1 for what stands at a place from 0; 0 where there is none.
-abbrev pub counted : Option ℕ → ℕ
-counted None = 0
-counted (Some i) = i + 1
+-- The number of the table declared last, if one is.
+abbrev pub last_number : ℕ → Option ℕ
+last_number zero = None
+last_number (suc n) = Some (suc n)
 
--- The number of the table with a name, 0 where none has it; of two with one name the first.
-abbrev pub table_number : List ℕ → Decl → Name → ℕ
-table_number text d n = counted (place_among text d.titles n)
+-- The number of the clause's table; outside of clauses there is none.
+abbrev pub table_around : Option Clause → Option ℕ
+table_around None = None
+table_around (Some c) = c.table
 
 -- The table that a SELECT reads is named behind its attributes.
 abbrev pub from_is : Role → Bool
@@ -46,12 +48,15 @@ pick_is (role.Attribute column.Set) = false
 pick_is (role.Attribute column.Cell) = false
 
 -- The number of the table behind the next FROM.
-abbrev pub table_behind : List ℕ → Decl → List Part → ℕ
-table_behind text d [] = 0
-table_behind text d (p ∷ ps) = cond (from_is p.role) (table_number text d (name_of p)) (table_behind text d ps)
+abbrev pub number_of : Decl → Option Part → Option ℕ
+number_of d None = None
+number_of d (Some p) = table_number d (name_of p)
+
+abbrev pub table_behind : Decl → List Part → Option ℕ
+table_behind d ps = number_of d (find (λ p. from_is p.role) ps)
 
 -- What a SELECT chooses: its table, which of the table's attributes, and whether it names anything else.
-abbrev pub nothing_of : ℕ → Choice
+abbrev pub nothing_of : Option ℕ → Choice
 nothing_of t = record { table = t; picked = replicate 8 false; strange = false }
 
 abbrev pub picking : Choice → Option ℕ → Choice
@@ -60,38 +65,43 @@ picking c (Some k) =
     cond (nat_lt k 8) (record { table = c.table; picked = slice_set c.picked k true; strange = c.strange })
     (record { table = c.table; picked = c.picked; strange = true })
 
-abbrev pub picked_by : List ℕ → Decl → Choice → Part → Choice
-picked_by text d c p = cond (pick_is p.role) (picking c (field_place text d c.table (name_of p))) c
+-- Of an unknown table nothing can be picked.
+abbrev pub place_in : Decl → Option ℕ → Name → Option ℕ
+place_in d None n = None
+place_in d (Some t) n = field_place d t n
 
-abbrev pub picked_from : List ℕ → Decl → Choice → List Part → Choice
-picked_from text d c [] = c
-picked_from text d c (p ∷ ps) = cond (from_is p.role) c (picked_from text d (picked_by text d c p) ps)
+abbrev pub picked_by : Decl → Choice → Part → Choice
+picked_by d c p = cond (pick_is p.role) (picking c (place_in d c.table (name_of p))) c
 
-abbrev pub chosen : List ℕ → Decl → List Part → Choice
-chosen text d ps = picked_from text d (nothing_of (table_behind text d ps)) ps
+abbrev pub picked_from : Decl → Choice → List Part → Choice
+picked_from d c [] = c
+picked_from d c (p ∷ ps) = cond (from_is p.role) c (picked_from d (picked_by d c p) ps)
 
--- A clause begins with SELECT, with the FROM of a DELETE and with UPDATE: the number of its table, 0 where that is unknown.
-abbrev pub opened : List ℕ → Decl → Part → List Part → Role → Option ℕ
-opened text d p ps role.Plain = None
-opened text d p ps role.Title = None
-opened text d p ps (role.Declared a) = None
-opened text d p ps (role.Variable use_of.Select) = Some (table_behind text d ps)
-opened text d p ps (role.Variable use_of.Assign) = None
-opened text d p ps (role.Variable use_of.Clear) = None
-opened text d p ps (role.Variable use_of.Tail) = None
-opened text d p ps (role.Variable use_of.Of) = None
-opened text d p ps (role.Variable use_of.Catch) = None
-opened text d p ps (role.Variable use_of.Read) = None
-opened text d p ps (role.Variable use_of.Load) = None
-opened text d p ps (role.Variable use_of.Next) = None
-opened text d p ps (role.Variable use_of.Lone) = None
-opened text d p ps (role.Variable use_of.Head) = None
-opened text d p ps (role.Variable use_of.Nil) = None
-opened text d p ps (role.Variable use_of.Cursor) = None
-opened text d p ps (role.Table access.From) = Some (table_number text d (name_of p))
-opened text d p ps (role.Table access.Update) = Some (table_number text d (name_of p))
-opened text d p ps (role.Table access.Insert) = None
-opened text d p ps (role.Attribute a) = None
+abbrev pub chosen : Decl → List Part → Choice
+chosen d ps = picked_from d (nothing_of (table_behind d ps)) ps
+
+-- A clause begins with SELECT, with the FROM of a DELETE and with UPDATE.
+abbrev pub opened : Decl → Part → List Part → Role → Option Clause
+opened d p ps role.Plain = None
+opened d p ps role.Title = None
+opened d p ps (role.Declared a) = None
+opened d p ps (role.Variable use_of.Select) = Some (record { table = table_behind d ps })
+opened d p ps (role.Variable use_of.Assign) = None
+opened d p ps (role.Variable use_of.Clear) = None
+opened d p ps (role.Variable use_of.Tail) = None
+opened d p ps (role.Variable use_of.Of) = None
+opened d p ps (role.Variable use_of.Catch) = None
+opened d p ps (role.Variable use_of.Read) = None
+opened d p ps (role.Variable use_of.Load) = None
+opened d p ps (role.Variable use_of.Next) = None
+opened d p ps (role.Variable use_of.Lone) = None
+opened d p ps (role.Variable use_of.Head) = None
+opened d p ps (role.Variable use_of.Nil) = None
+opened d p ps (role.Variable use_of.Cursor) = None
+opened d p ps (role.Table access.From) = Some (record { table = table_number d (name_of p) })
+opened d p ps (role.Table access.Update) = Some (record { table = table_number d (name_of p) })
+opened d p ps (role.Table access.Insert) = None
+opened d p ps (role.Attribute a) = None
 
 -- A table is declared.
 abbrev pub table_is : Role → Bool
@@ -108,9 +118,9 @@ table_is (role.Table a) = false
 table_is (role.Attribute a) = false
 
 -- Outside of clauses the tables declared are counted, and a clause may begin; a clause lasts to its semicolon.
-abbrev pub scope_from : List ℕ → Decl → Part → List Part → ℕ → Option ℕ → Scope
-scope_from text d p ps n None = record { declared = cond (table_is p.role) (n + 1) n; clause = opened text d p ps p.role }
-scope_from text d p ps n (Some t) = record { declared = n; clause = cond (is_sign Semicolon p.word) None (Some t) }
+abbrev pub scope_from : Decl → Part → List Part → ℕ → Option Clause → Scope
+scope_from d p ps n None = record { declared = cond (table_is p.role) (n + 1) n; clause = opened d p ps p.role }
+scope_from d p ps n (Some c) = record { declared = n; clause = cond (is_sign Semicolon p.token.word) None (Some c) }
 
-abbrev pub scope_after : List ℕ → Decl → Scope → Part → List Part → Scope
-scope_after text d s p ps = scope_from text d p ps s.declared s.clause
+abbrev pub scope_after : Decl → Scope → Part → List Part → Scope
+scope_after d s p ps = scope_from d p ps s.declared s.clause

@@ -1,34 +1,38 @@
 //! What a name is bound to: a table, an attribute or a variable, by number.
-ghost use Rattle.std.specs.Prelude.{◌≡◌, Ok, MatchResult};
+ghost use Rattle.std.specs.Prelude.{◌≡◌, Ok, MatchResult, position};
 ghost use Rattle.faults.specs.declared.Fault.TheVariants.{Memory};
-ghost use Rattle.names.specs.Spelled.{place_among};
-ghost use Rattle.names.specs.Schema.{decl_of, name_of};
-ghost use Rattle.names.specs.Binding.{kind_of, table_bound, attribute_bound, field_bound, clause_table, declared_bound, column_bound, names_of, bound_to, first_of, rechosen, used_again, first_used, noted, hidden_by, choice_of, bound_use, bound_as, Fails};
+ghost use Rattle.roles.specs.Roles.{name_of};
+ghost use Rattle.names.specs.Spelled.{same_name};
+ghost use Rattle.names.specs.Schema.{decl_of};
+ghost use Rattle.names.specs.Scopes.{place_in};
+ghost use Rattle.names.specs.Binding.{kind_of, table_bound, field_bound, declared_bound, column_bound, variable_place, kind_at, choice_at, names_of, bound_to, used_again, first_used, noted, hidden_by, choice_of, bound_use, bound_as, Fails};
 
-use super::name::{Name, place_among};
-use super::schema::{Tables, name_of};
-use super::scope::{Choice, Scope, choose, table_number};
+use super::name::is_same;
+use super::schema::Schema;
+use super::scope::{Choice, Scope};
 use faults::Fault;
+use lexer::name::Name;
 use roles::role::{Column, Declared, Part, Role, Use};
 
 /// The kind of a variable.
-#[derive(Clone, Copy)]
+#[derive(Clone, Copy, PartialEq, Eq)]
 pub enum Kind {
     Integer,
     List,
     Table,
 }
 
-/// What is known of a variable: the kind of its first use, and what the first SELECT into it chooses.
+/// A variable: its name, the kind of its first use, and what the first SELECT into it chooses.
 #[derive(Clone, Copy)]
-pub struct Known {
+pub struct Variable {
+    pub name: Name,
     pub kind: Kind,
     pub choice: Option<Choice>,
 }
 
 /// What a name is bound to: nothing, no table or attribute that there is, a variable by its number from 0, a table by its
 /// number from 1, an attribute by its place in its table.
-#[derive(Clone, Copy)]
+#[derive(Clone, Copy, PartialEq, Eq)]
 pub enum Bound {
     Free,
     Unknown,
@@ -40,117 +44,114 @@ pub enum Bound {
 /// The variables so far in the order of their first use, and what each part so far is bound to.
 #[derive(Drop)]
 pub struct Names {
-    pub names: Vec<Name>,
-    pub known: Vec<Known>,
+    pub variables: Vec<Variable>,
     pub bounds: Vec<Bound>,
 }
 
 /// The kind that the form of a use gives.
-pub fn kind_of(of: Use) -> Kind
-    ensures { result ≡ kind_of of }
-{
-    match of {
-        Use::Assign | Use::Catch | Use::Read | Use::Lone => Kind::Integer,
-        Use::Select | Use::Next | Use::Cursor => Kind::Table,
-        _ => Kind::List,
+impl From<Use> for Kind {
+    ghost from_gives = { λ u k. k ≡ kind_of u };
+
+    fn from(of: Use) -> Kind {
+        match of {
+            Use::Assign | Use::Catch | Use::Read | Use::Lone => Kind::Integer,
+            Use::Select | Use::Next | Use::Cursor => Kind::Table,
+            _ => Kind::List,
+        }
     }
 }
 
-fn bind_table(number: usize) -> Bound
+fn bind_table(number: Option<usize>) -> Bound
     ensures { result ≡ table_bound number }
 {
-    if number == 0 {
-        Bound::Unknown
-    } else {
-        Bound::Table(number)
-    }
-}
-
-/// An attribute of table `table`; of an unknown table every attribute will do.
-fn bind_field(text: &[u8], tables: &Tables, table: usize, name: Name) -> Bound
-    ensures { result ≡ field_bound text.now (decl_of tables.now) table name }
-{
-    if table == 0 {
-        return Bound::Free;
-    }
-    match tables.field_place(text, table, name) {
-        Some(place) => Bound::Attribute(place),
+    match number {
+        Some(number) => Bound::Table(number),
         None => Bound::Unknown,
     }
 }
 
-/// The number of the clause's table, 0 outside of clauses.
-fn clause_table(scope: Scope) -> usize
-    ensures { result ≡ clause_table scope.clause }
-{
-    scope.clause.unwrap_or(0)
-}
-
-fn bind_declared(text: &[u8], tables: &Tables, scope: Scope, name: Name, of: Declared) -> Bound
-    ensures { result ≡ declared_bound text.now (decl_of tables.now) scope name of }
-{
-    match of {
-        Declared::Table | Declared::References => bind_table(table_number(text, tables, name)),
-        _ => bind_field(text, tables, scope.declared, name),
+impl Schema<'_> {
+    /// An attribute of a table; of an unknown table every attribute will do.
+    fn bind_field(&self, table: Option<usize>, name: Name) -> Bound
+        ensures { result ≡ field_bound (decl_of self.now) table name }
+    {
+        let Some(table) = table else {
+            return Bound::Free;
+        };
+        match self.field_place(table, name) {
+            Some(place) => Bound::Attribute(place),
+            None => Bound::Unknown,
+        }
     }
-}
 
-fn bind_column(text: &[u8], tables: &Tables, scope: Scope, name: Name, of: Column) -> Bound
-    ensures { result ≡ column_bound text.now (decl_of tables.now) scope name of }
-{
-    match of {
-        Column::Cell => Bound::Free,
-        _ => bind_field(text, tables, clause_table(scope), name),
+    fn bind_declared(&self, scope: Scope, name: Name, of: Declared) -> Bound
+        ensures { result ≡ declared_bound (decl_of self.now) scope name of }
+    {
+        match of {
+            Declared::Table | Declared::References => bind_table(self.table_number(name)),
+            _ => self.bind_field(scope.last_table(), name),
+        }
     }
-}
 
-/// The place of the attribute that hides a lone variable in a clause.
-fn hidden_by(text: &[u8], tables: &Tables, scope: Scope, name: Name, of: Use) -> Option<usize>
-    ensures { result ≡ hidden_by text.now (decl_of tables.now) scope name of }
-{
-    match of {
-        Use::Lone => tables.field_place(text, clause_table(scope), name),
-        _ => None,
+    fn bind_column(&self, scope: Scope, name: Name, of: Column) -> Bound
+        ensures { result ≡ column_bound (decl_of self.now) scope name of }
+    {
+        match of {
+            Column::Cell => Bound::Free,
+            _ => self.bind_field(scope.clause_table(), name),
+        }
     }
-}
 
-/// What a use chooses: a SELECT its attributes, any other nothing.
-fn choice_of(text: &[u8], tables: &Tables, behind: &[Part], of: Use) -> Option<Choice>
-    ensures { result ≡ choice_of text.now (decl_of tables.now) behind.now of }
-{
-    match of {
-        Use::Select => Some(choose(text, tables, behind)),
-        _ => None,
+    /// The place of the attribute that hides a lone variable in a clause.
+    fn hidden_by(&self, scope: Scope, name: Name, of: Use) -> Option<usize>
+        ensures { result ≡ hidden_by (decl_of self.now) scope name of }
+    {
+        match of {
+            Use::Lone => self.place_in(scope.clause_table(), name),
+            _ => None,
+        }
+    }
+
+    /// What a use chooses: a SELECT its attributes, any other nothing.
+    fn choice_of(&self, behind: &[Part], of: Use) -> Option<Choice>
+        ensures { result ≡ choice_of (decl_of self.now) behind.now of }
+    {
+        match of {
+            Use::Select => Some(self.choose(behind)),
+            _ => None,
+        }
     }
 }
 
 /// The most variables that a model has.
 pub const MOST_VARIABLES: usize = 32;
 
-/// The first SELECT into a variable is kept.
-fn first_of(earlier: Option<Choice>, choice: Option<Choice>) -> Option<Choice>
-    ensures { result ≡ first_of earlier choice }
-{
-    match earlier {
-        Some(first) => Some(first),
-        None => choice,
-    }
-}
-
-/// What a further use of a variable tells of it.
-fn rechoose(known: &mut Vec<Known>, variable: usize, choice: Option<Choice>)
-    ensures { known.new.items ≡ rechosen known.old.items variable choice }
-{
-    if variable < known.len() {
-        let earlier = known[variable];
-        known[variable] = Known {
-            kind: earlier.kind,
-            choice: first_of(earlier.choice, choice),
-        };
-    }
-}
-
 impl Names {
+    /// The number of the variable with a name.
+    pub fn variable_place(&self, text: &[u8], name: Name) -> Option<usize>
+        ensures { result ≡ variable_place text.now (names_of self.now).variables name }
+    {
+        self.variables
+            .iter()
+            .position(|variable| is_same(text, variable.name, name))
+    }
+
+    /// The kind of a variable by its number; one that there is not counts as an integer.
+    pub fn kind_at(&self, variable: usize) -> Kind
+        ensures { result ≡ kind_at (names_of self.now).variables variable }
+    {
+        self.variables
+            .get(variable)
+            .map_or(Kind::Integer, |variable| variable.kind)
+    }
+
+    /// What the first SELECT into a variable chooses, by the variable's number.
+    pub fn choice_at(&self, variable: usize) -> Option<Choice>
+        ensures { result ≡ choice_at (names_of self.now).variables variable }
+    {
+        self.variables.get(variable)?.choice
+    }
+
     /// One part more is bound.
     fn bind_to(&mut self, bound: Bound) -> Result<(), Fault>
         ensures { MatchResult result (λ _. names_of self.new ≡ bound_to (names_of self.old) bound) (λ f. f ≡ Memory) }
@@ -159,24 +160,23 @@ impl Names {
         Ok(())
     }
 
-    /// A variable that was used before.
+    /// A variable that was used before; the first SELECT into it is kept.
     fn use_again(&mut self, variable: usize, choice: Option<Choice>) -> Result<(), Fault>
         ensures { MatchResult result (λ _. names_of self.new ≡ used_again (names_of self.old) variable choice) (λ f. f ≡ Memory) }
     {
-        rechoose(&mut self.known, variable, choice);
-        self.bounds.push(Bound::Variable(variable))?;
-        Ok(())
+        if let Some(earlier) = self.variables.get_mut(variable) {
+            earlier.choice = earlier.choice.or(choice);
+        }
+        self.bind_to(Bound::Variable(variable))
     }
 
     /// A variable that was not used before.
     fn use_first(&mut self, name: Name, kind: Kind, choice: Option<Choice>) -> Result<(), Fault>
         ensures { MatchResult result (λ _. names_of self.new ≡ first_used (names_of self.old) name kind choice) (λ f. f ≡ Memory) }
     {
-        let number = self.names.len();
-        self.names.push(name)?;
-        self.known.push(Known { kind, choice })?;
-        self.bounds.push(Bound::Variable(number))?;
-        Ok(())
+        let number = self.variables.len();
+        self.variables.push(Variable { name, kind, choice })?;
+        self.bind_to(Bound::Variable(number))
     }
 
     /// A use of a variable.
@@ -187,55 +187,49 @@ impl Names {
         kind: Kind,
         choice: Option<Choice>,
     ) -> Result<(), Fault>
-        ensures { MatchResult result (λ _. noted (names_of self.old) name kind choice (place_among text.now (names_of self.old).names name) ≡ Ok (names_of self.new)) (λ f. Fails f (noted (names_of self.old) name kind choice (place_among text.now (names_of self.old).names name))) }
+        ensures { MatchResult result (λ _. noted (names_of self.old) name kind choice (variable_place text.now (names_of self.old).variables name) ≡ Ok (names_of self.new)) (λ f. Fails f (noted (names_of self.old) name kind choice (variable_place text.now (names_of self.old).variables name))) }
     {
-        match place_among(text, self.names.as_slice(), name) {
+        match self.variable_place(text, name) {
             Some(variable) => self.use_again(variable, choice),
-            None => {
-                if self.names.len() >= MOST_VARIABLES {
-                    return Err(Fault::LimitPassed { place: name.place });
-                }
-                self.use_first(name, kind, choice)
-            }
+            None if self.variables.len() < MOST_VARIABLES => self.use_first(name, kind, choice),
+            None => Err(Fault::LimitPassed { place: name.place }),
         }
     }
 
     /// A use of a variable, or of the attribute that hides it.
     fn bind_use(
         &mut self,
-        text: &[u8],
-        tables: &Tables,
+        schema: &Schema,
         scope: Scope,
         name: Name,
         of: Use,
         behind: &[Part],
     ) -> Result<(), Fault>
-        ensures { MatchResult result (λ _. bound_use text.now (decl_of tables.now) (names_of self.old) name behind.now of (hidden_by text.now (decl_of tables.now) scope name of) ≡ Ok (names_of self.new)) (λ f. Fails f (bound_use text.now (decl_of tables.now) (names_of self.old) name behind.now of (hidden_by text.now (decl_of tables.now) scope name of))) }
+        ensures { MatchResult result (λ _. bound_use (decl_of schema.now) (names_of self.old) name behind.now of (hidden_by (decl_of schema.now) scope name of) ≡ Ok (names_of self.new)) (λ f. Fails f (bound_use (decl_of schema.now) (names_of self.old) name behind.now of (hidden_by (decl_of schema.now) scope name of))) }
     {
-        match hidden_by(text, tables, scope, name, of) {
+        match schema.hidden_by(scope, name, of) {
             Some(place) => self.bind_to(Bound::Attribute(place)),
-            None => self.note(text, name, kind_of(of), choice_of(text, tables, behind, of)),
+            None => self.note(schema.text, name, of.into(), schema.choice_of(behind, of)),
         }
     }
 
     /// One part more, with those behind it.
     pub(crate) fn bind(
         &mut self,
-        text: &[u8],
-        tables: &Tables,
+        schema: &Schema,
         scope: Scope,
         part: Part,
         behind: &[Part],
     ) -> Result<(), Fault>
-        ensures { MatchResult result (λ _. bound_as text.now (decl_of tables.now) scope (names_of self.old) (name_of part) behind.now part.role ≡ Ok (names_of self.new)) (λ f. Fails f (bound_as text.now (decl_of tables.now) scope (names_of self.old) (name_of part) behind.now part.role)) }
+        ensures { MatchResult result (λ _. bound_as (decl_of schema.now) scope (names_of self.old) (name_of part) behind.now part.role ≡ Ok (names_of self.new)) (λ f. Fails f (bound_as (decl_of schema.now) scope (names_of self.old) (name_of part) behind.now part.role)) }
     {
-        let name = name_of(part);
+        let name = part.name();
         match part.role {
             Role::Plain | Role::Title => self.bind_to(Bound::Free),
-            Role::Declared(of) => self.bind_to(bind_declared(text, tables, scope, name, of)),
-            Role::Variable(of) => self.bind_use(text, tables, scope, name, of, behind),
-            Role::Table(_) => self.bind_to(bind_table(table_number(text, tables, name))),
-            Role::Attribute(of) => self.bind_to(bind_column(text, tables, scope, name, of)),
+            Role::Declared(of) => self.bind_to(schema.bind_declared(scope, name, of)),
+            Role::Variable(of) => self.bind_use(schema, scope, name, of, behind),
+            Role::Table(_) => self.bind_to(bind_table(schema.table_number(name))),
+            Role::Attribute(of) => self.bind_to(schema.bind_column(scope, name, of)),
         }
     }
 }

@@ -1,137 +1,134 @@
 //! Where a name stands: the tables declared before it, and the table of the clause around it.
-ghost use Rattle.std.specs.Prelude.{◌≡◌, ◌++◌};
-ghost use Rattle.names.specs.Spelled.{place_among};
-ghost use Rattle.names.specs.Schema.{decl_of, name_of};
-ghost use Rattle.names.specs.Scopes.{table_number, from_is, pick_is, table_is, table_behind, picking, picked_by, picked_from, chosen, opened};
+ghost use Rattle.std.specs.Prelude.{◌≡◌, find};
+ghost use Rattle.roles.specs.Roles.{name_of};
+ghost use Rattle.names.specs.Schema.{decl_of};
+ghost use Rattle.names.specs.Scopes.{from_is, last_number, table_around, table_behind, picking, place_in, picked_by, chosen, opened};
 
-use super::name::{Name, place_among};
-use super::schema::{Tables, name_of};
-use roles::role::{Access, Column, Declared, Part, Role, Use};
+use super::schema::Schema;
+use lexer::name::Name;
+use roles::role::{Access, Column, Part, Role, Use};
 
 /// How many attributes a table has at most.
 pub const MOST_FIELDS: usize = 8;
 
-/// How many tables are declared so far, and the number of the clause's table: `None` outside of clauses, 0 where it is unknown.
+/// A clause, with the number of its table where there is such a table.
+#[derive(Clone, Copy)]
+pub struct Clause {
+    pub table: Option<usize>,
+}
+
+/// Where a name stands: how many tables are declared so far, and the clause around it.
 #[derive(Clone, Copy)]
 pub struct Scope {
     pub declared: usize,
-    pub clause: Option<usize>,
+    pub clause: Option<Clause>,
 }
 
-/// What a SELECT chooses: its table, which of the table's attributes, and whether it names anything else.
-#[derive(Clone, Copy)]
+/// What a SELECT chooses: the number of its table where there is such a table, which of the table's attributes, and whether it
+/// names anything else.
+#[derive(Clone, Copy, PartialEq, Eq)]
 pub struct Choice {
-    pub table: usize,
+    pub table: Option<usize>,
     pub picked: [bool; MOST_FIELDS],
     pub strange: bool,
+}
+
+impl Scope {
+    /// The number of the table declared last.
+    pub(crate) fn last_table(self) -> Option<usize>
+        ensures { result ≡ last_number self.declared }
+    {
+        (self.declared > 0).then_some(self.declared)
+    }
+
+    /// The number of the clause's table.
+    pub(crate) fn clause_table(self) -> Option<usize>
+        ensures { result ≡ table_around self.clause }
+    {
+        self.clause?.table
+    }
 }
 
 fn is_from(role: Role) -> bool
     ensures { result ≡ from_is role }
 {
-    matches!(role, Role::Table(Access::From))
+    role == Role::Table(Access::From)
 }
 
-fn is_pick(role: Role) -> bool
-    ensures { result ≡ pick_is role }
-{
-    matches!(role, Role::Attribute(Column::Pick))
-}
-
-/// Whether a table is declared.
-pub(crate) fn is_table(role: Role) -> bool
-    ensures { result ≡ table_is role }
-{
-    matches!(role, Role::Declared(Declared::Table))
-}
-
-/// The number of the table with a name, 0 where none has it.
-pub fn table_number(text: &[u8], tables: &Tables, name: Name) -> usize
-    ensures { result ≡ table_number text.now (decl_of tables.now) name }
-{
-    match place_among(text, tables.titles.as_slice(), name) {
-        Some(place) => place + 1,
-        None => 0,
-    }
-}
-
-/// The number of the table behind the next FROM.
-fn table_behind(text: &[u8], tables: &Tables, behind: &[Part]) -> usize
-    ensures { result ≡ table_behind text.now (decl_of tables.now) behind.now }
-{
-    for part in behind {
-        if is_from(part.role) {
-            return table_number(text, tables, name_of(*part));
+impl Choice {
+    /// One attribute more that a SELECT names, by its place in the table.
+    fn pick(mut self, place: Option<usize>) -> Choice
+        ensures { result ≡ picking self place }
+    {
+        match place {
+            Some(k) if k < MOST_FIELDS => self.picked[k] = true,
+            _ => self.strange = true,
         }
-    }
-    0
-}
-
-/// One attribute more that a SELECT names, by its place in the table.
-fn pick(choice: Choice, place: Option<usize>) -> Choice
-    ensures { result ≡ picking choice place }
-{
-    let table = choice.table;
-    let mut picked = choice.picked;
-    let mut strange = choice.strange;
-    match place {
-        Some(k) if k < MOST_FIELDS => picked[k] = true,
-        _ => strange = true,
-    }
-    Choice {
-        table,
-        picked,
-        strange,
+        self
     }
 }
 
-/// What is chosen with one part more.
-fn pick_by(text: &[u8], tables: &Tables, choice: Choice, part: Part) -> Choice
-    ensures { result ≡ picked_by text.now (decl_of tables.now) choice part }
+/// The table that the next FROM names.
+fn next_from(behind: &[Part]) -> Option<Part>
+    ensures { result ≡ find (λ p. from_is p.role) behind.now }
 {
-    if is_pick(part.role) {
-        return pick(
-            choice,
-            tables.field_place(text, choice.table, name_of(part)),
-        );
-    }
-    choice
+    behind.iter().copied().find(|part| is_from(part.role))
 }
 
-/// What the SELECT chooses whose attributes and table stand behind.
-pub(crate) fn choose(text: &[u8], tables: &Tables, behind: &[Part]) -> Choice
-    ensures { result ≡ chosen text.now (decl_of tables.now) behind.now }
-{
-    let mut choice = Choice {
-        table: table_behind(text, tables, behind),
-        picked: [false; MOST_FIELDS],
-        strange: false,
-    };
-    for part in behind {
-        if is_from(part.role) {
+impl Schema<'_> {
+    /// The number of the table behind the next FROM.
+    fn table_behind(&self, behind: &[Part]) -> Option<usize>
+        ensures { result ≡ table_behind (decl_of self.now) behind.now }
+    {
+        self.table_number(next_from(behind)?.name())
+    }
+
+    /// The place of a name among the attributes of a table; of an unknown table there is none.
+    pub(crate) fn place_in(&self, table: Option<usize>, name: Name) -> Option<usize>
+        ensures { result ≡ place_in (decl_of self.now) table name }
+    {
+        self.field_place(table?, name)
+    }
+
+    /// What is chosen with one part more.
+    fn pick_by(&self, choice: Choice, part: Part) -> Choice
+        ensures { result ≡ picked_by (decl_of self.now) choice part }
+    {
+        if part.role != Role::Attribute(Column::Pick) {
             return choice;
         }
-        choice = pick_by(text, tables, choice, *part);
+        choice.pick(self.place_in(choice.table, part.name()))
     }
-    choice
-}
 
-/// The table of the clause that a part begins.
-pub(crate) fn open_clause(
-    text: &[u8],
-    tables: &Tables,
-    part: Part,
-    behind: &[Part],
-) -> Option<usize>
-    ensures { result ≡ opened text.now (decl_of tables.now) part behind.now part.role }
-{
-    match part.role {
-        Role::Variable(Use::Select) => Some(table_behind(text, tables, behind)),
-        Role::Table(Access::From | Access::Update) => Some(table_number(
-            text,
-            tables,
-            name_of(part),
-        )),
-        _ => None,
+    /// What the SELECT chooses whose attributes and table stand behind.
+    pub(crate) fn choose(&self, behind: &[Part]) -> Choice
+        ensures { result ≡ chosen (decl_of self.now) behind.now }
+    {
+        let mut choice = Choice {
+            table: self.table_behind(behind),
+            picked: [false; MOST_FIELDS],
+            strange: false,
+        };
+        let mut left = behind;
+        // A `fold` over what `take_while` gives says the same, but its proof didn't close.
+        while let [part, rest @ ..] = left
+            && !is_from(part.role)
+        {
+            choice = self.pick_by(choice, *part);
+            left = rest;
+        }
+        choice
+    }
+
+    /// The clause that a part begins.
+    pub(crate) fn open_clause(&self, part: Part, behind: &[Part]) -> Option<Clause>
+        ensures { result ≡ opened (decl_of self.now) part behind.now part.role }
+    {
+        let table = match part.role {
+            Role::Variable(Use::Select) => self.table_behind(behind),
+            Role::Table(Access::From | Access::Update) => self.table_number(part.name()),
+            _ => return None,
+        };
+        Some(Clause { table })
     }
 }

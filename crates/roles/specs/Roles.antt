@@ -1,8 +1,10 @@
 -- What each name of a model stands for, told by the tokens around it.
-use Rattle.std.specs.Prelude.{ℕ, zero, suc, Bool, cond, ◌&&◌, List, [], ◌∷◌, map, length, Ok, Err, Result, nat_lt, slice_index_or}
+use Rattle.std.specs.Prelude.{ℕ, zero, suc, Bool, cond, ◌&&◌, List, [], ◌∷◌, map, length, Ok, Err, Result, nat_lt, slice_get}
+use Rattle.std.specs.Option.{unwrap_or}
 use Rattle.faults.specs.declared.Fault.{Fault}
 use Rattle.lexer.specs.declared.keywords.Keyword.{Keyword}
 use Rattle.lexer.specs.declared.keywords.Keyword.TheVariants as kw
+use Rattle.lexer.specs.declared.name.Name.{Name}
 use Rattle.lexer.specs.declared.signs.Sign.TheVariants.{Open, Dot, Semicolon, Equal}
 use Rattle.terms.specs.declared.pull.Word.{Word}
 use Rattle.terms.specs.declared.pull.Word.TheVariants as word
@@ -25,7 +27,7 @@ words ps = map (λ p. p.word) ps
 
 -- The word so many tokens behind; behind the last there is a number, which goes on with nothing.
 abbrev pub at : List Word → ℕ → Word
-at ws k = slice_index_or ws k (word.Number 0)
+at ws k = unwrap_or (slice_get ws k) (word.Number 0)
 
 -- Two words are . TAIL
 abbrev pub is_tail : Word → Word → Bool
@@ -164,9 +166,13 @@ pulled_from (suc n) text upto at = pulled_by upto (pulled_from n text upto) (pul
 abbrev pub pulled_upto : List ℕ → ℕ → List Pulled
 pulled_upto text upto = pulled_from (length text) text upto 0
 
+-- A part as a name.
+abbrev pub name_of : Part → Name
+name_of p = record { place = p.token.place; end = p.token.end }
+
 -- Tokens with their roles.
 abbrev pub part_of : Role → Pulled → Part
-part_of r p = record { role = r; word = p.word; place = p.place; end = p.end }
+part_of r p = record { role = r; token = p }
 
 abbrev pub given : List Role → List Pulled → List Part
 given [] ps = []

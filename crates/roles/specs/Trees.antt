@@ -95,11 +95,11 @@ abbrev pub pulled_of : Lexeme → Pulled
 pulled_of t = record { word = word_of t.kind; place = t.place; end = after t }
 
 abbrev pub pulled_in : Part → Pulled
-pulled_in p = record { word = p.word; place = p.place; end = p.end }
+pulled_in p = p.token
 
 -- The bytes of a text that a part is.
 abbrev pub bytes_in : List ℕ → Part → List ℕ
-bytes_in text p = between p.place p.end text
+bytes_in text p = between p.token.place p.token.end text
 
 -- The parts of a text are these tokens, one for one, with the roles that a model gives to them.
 pub record Told (text : List ℕ) (m : Model) (ts : List Lexeme) (parts : List Part) : Type 0 where

@@ -1,12 +1,12 @@
 //! What the next name of a model would be, told by the tokens before it.
-ghost use Rattle.std.specs.Prelude.{◌≡◌, slice_index_or};
+ghost use Rattle.std.specs.Prelude.{◌≡◌, unwrap_or, slice_get};
 ghost use Rattle.terms.specs.declared.pull.Word.TheVariants.{Number};
 ghost use Rattle.roles.specs.Roles.{words, is_tail, target_use, term_use, name_role, role_of, after_keyword, after_name, onward};
 
 use super::role::{Access, Column, Declared, Role, Use};
 use lexer::keywords::Keyword;
 use lexer::signs::Sign;
-use terms::pull::{Pulled, Word, is_keyword, is_sign};
+use terms::pull::{Pulled, Word};
 
 /// What the next name would be.
 #[derive(Clone, Copy)]
@@ -49,36 +49,32 @@ pub(crate) enum Mode {
     Cell,
 }
 
-/// The word so many tokens behind, and a number where there is none.
-fn peek(behind: &[Pulled], steps: usize) -> Word
-    ensures { result ≡ slice_index_or (words behind.now) steps (Number 0) }
+/// The word so many tokens behind, if there is one.
+fn peek(behind: &[Pulled], steps: usize) -> Option<Word>
+    ensures { result ≡ slice_get (words behind.now) steps }
 {
-    if steps < behind.len() {
-        behind[steps].word
-    } else {
-        Word::Number(0)
-    }
+    behind.get(steps).map(|token| token.word)
 }
 
 /// Whether two words are `. TAIL`.
-fn is_tail(first: Word, second: Word) -> bool
-    ensures { result ≡ is_tail first second }
+fn is_tail(first: Option<Word>, second: Option<Word>) -> bool
+    ensures { result ≡ is_tail (unwrap_or first (Number 0)) (unwrap_or second (Number 0)) }
 {
-    is_sign(first, Sign::Dot) && is_keyword(second, Keyword::Tail)
+    first == Some(Word::Sign(Sign::Dot)) && second == Some(Word::Keyword(Keyword::Tail))
 }
 
 /// How a statement that begins with a variable uses it, by the tokens behind it.
 fn target_use(behind: &[Pulled]) -> Use
     ensures { result ≡ target_use (words behind.now) }
 {
-    if !is_sign(peek(behind, 0), Sign::Equal) {
+    if peek(behind, 0) != Some(Word::Sign(Sign::Equal)) {
         return Use::Assign;
     }
     match peek(behind, 1) {
-        Word::Keyword(Keyword::Nil) => Use::Clear,
-        Word::Keyword(Keyword::Select) => Use::Select,
-        Word::Keyword(Keyword::Catch) => Use::Catch,
-        Word::Name if is_tail(peek(behind, 2), peek(behind, 3)) => Use::Tail,
+        Some(Word::Keyword(Keyword::Nil)) => Use::Clear,
+        Some(Word::Keyword(Keyword::Select)) => Use::Select,
+        Some(Word::Keyword(Keyword::Catch)) => Use::Catch,
+        Some(Word::Name) if is_tail(peek(behind, 2), peek(behind, 3)) => Use::Tail,
         _ => Use::Assign,
     }
 }
@@ -93,9 +89,9 @@ fn term_use(behind: &[Pulled]) -> Use
         return Use::Of;
     }
     match first {
-        Word::Sign(Sign::Dot) => Use::Head,
-        Word::Sign(Sign::Open) => Use::Cursor,
-        Word::Sign(Sign::Equal) if is_keyword(second, Keyword::Nil) => Use::Nil,
+        Some(Word::Sign(Sign::Dot)) => Use::Head,
+        Some(Word::Sign(Sign::Open)) => Use::Cursor,
+        Some(Word::Sign(Sign::Equal)) if second == Some(Word::Keyword(Keyword::Nil)) => Use::Nil,
         _ => Use::Lone,
     }
 }
@@ -169,7 +165,7 @@ fn after_name(mode: Mode, behind: &[Pulled]) -> Mode
         Mode::Table | Mode::Field => Mode::Field,
         Mode::Key | Mode::Foreign | Mode::References | Mode::Check => Mode::Check,
         Mode::Pick => Mode::Pick,
-        Mode::Term if is_sign(peek(behind, 0), Sign::Open) => Mode::Cell,
+        Mode::Term if peek(behind, 0) == Some(Word::Sign(Sign::Open)) => Mode::Cell,
         _ => Mode::Term,
     }
 }
@@ -180,14 +176,8 @@ pub(crate) fn onward(mode: Mode, word: Word, behind: &[Pulled]) -> Mode
 {
     match word {
         Word::Name => after_name(mode, behind),
-        Word::Number(_) => mode,
         Word::Keyword(keyword) => after_keyword(keyword, mode),
-        Word::Sign(sign) => {
-            if is_sign(Word::Sign(sign), Sign::Semicolon) {
-                Mode::Target
-            } else {
-                mode
-            }
-        }
+        Word::Sign(Sign::Semicolon) => Mode::Target,
+        Word::Number(_) | Word::Sign(_) => mode,
     }
 }

@@ -1,11 +1,11 @@
 //! The parts of a model text.
 ghost use Rattle.std.specs.Prelude.{◌≡◌, IfOk, MatchResult};
 ghost use Rattle.faults.specs.declared.Fault.TheVariants.{Memory};
-ghost use Rattle.roles.specs.Roles.{pulled_upto, part_of, with_roles, parts_upto};
+ghost use Rattle.roles.specs.Roles.{pulled_upto, with_roles, parts_upto};
 ghost use Rattle.roles.specs.Trees.{Tells};
 
 use super::mode::{Mode, onward, role_of};
-use super::role::{Part, Role};
+use super::role::Part;
 use faults::Fault;
 use std::alloc::Global;
 use terms::pull::{Pulled, pull};
@@ -26,28 +26,20 @@ fn tokens_upto(heap: Global, text: &[u8], upto: usize) -> Result<Vec<Pulled>, Fa
     Ok(found)
 }
 
-/// A token with its role.
-fn part_of(role: Role, p: Pulled) -> Part
-    ensures { result ≡ part_of role p }
-{
-    Part {
-        role,
-        word: p.word,
-        place: p.place,
-        end: p.end,
-    }
-}
-
 /// Gives each token its role.
 fn with_roles(heap: Global, found: &[Pulled]) -> Result<Vec<Part>, Fault>
     ensures { MatchResult result (λ v. v.items ≡ with_roles found.now) (λ f. f ≡ Memory) }
 {
     let mut parts = Vec::new(heap);
     let mut mode = Mode::Title;
-    for (i, p) in found.iter().enumerate() {
-        let behind = &found[i + 1..];
-        parts.push(part_of(role_of(mode, p.word, behind), *p))?;
-        mode = onward(mode, p.word, behind);
+    let mut left = found;
+    while let [token, behind @ ..] = left {
+        parts.push(Part {
+            role: role_of(mode, token.word, behind),
+            token: *token,
+        })?;
+        mode = onward(mode, token.word, behind);
+        left = behind;
     }
     Ok(parts)
 }

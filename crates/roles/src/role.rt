@@ -1,8 +1,12 @@
 //! The roles of names.
-use terms::pull::Word;
+ghost use Rattle.std.specs.Prelude.{◌≡◌};
+ghost use Rattle.roles.specs.Roles.{name_of};
+
+use lexer::name::Name;
+use terms::pull::Pulled;
 
 /// What a name is in the declaration of a table.
-#[derive(Clone, Copy)]
+#[derive(Clone, Copy, PartialEq, Eq)]
 pub enum Declared {
     /// TABLE t
     Table,
@@ -19,7 +23,7 @@ pub enum Declared {
 }
 
 /// How a variable is used.
-#[derive(Clone, Copy)]
+#[derive(Clone, Copy, PartialEq, Eq)]
 pub enum Use {
     /// v = e
     Assign,
@@ -50,7 +54,7 @@ pub enum Use {
 }
 
 /// How a statement names a table.
-#[derive(Clone, Copy)]
+#[derive(Clone, Copy, PartialEq, Eq)]
 pub enum Access {
     /// FROM t, of SELECT and DELETE
     From,
@@ -61,7 +65,7 @@ pub enum Access {
 }
 
 /// How a statement names an attribute.
-#[derive(Clone, Copy)]
+#[derive(Clone, Copy, PartialEq, Eq)]
 pub enum Column {
     /// SELECT a
     Pick,
@@ -72,7 +76,7 @@ pub enum Column {
 }
 
 /// What a token is as a name.
-#[derive(Clone, Copy)]
+#[derive(Clone, Copy, PartialEq, Eq)]
 pub enum Role {
     /// No name.
     Plain,
@@ -84,11 +88,21 @@ pub enum Role {
     Attribute(Column),
 }
 
-/// A token with its role, the place of its first byte and the place behind it.
+/// A token with its role.
 #[derive(Clone, Copy)]
 pub struct Part {
     pub role: Role,
-    pub word: Word,
-    pub place: usize,
-    pub end: usize,
+    pub token: Pulled,
+}
+
+impl Part {
+    /// The token as a name: where it stands in the text.
+    pub fn name(self) -> Name
+        ensures { result ≡ name_of self }
+    {
+        Name {
+            place: self.token.place,
+            end: self.token.end,
+        }
+    }
 }

@@ -1,12 +1,14 @@
-use Rattle.std.proofs.Common.{◌≡◌, ◌-◌, ◌≤◌, length, drop, None}
+use Rattle.std.proofs.Common.{◌≡◌, ◌+◌, ◌≤◌, length, None}
 use Rattle.names.specs.Schema.{decl_of}
 use Rattle.names.specs.Binding.{names_of, bound_from, bound_in}
 use Rattle.names.proofs.resolve.resolve.Given as goal
 
-abbrev pub invariant-loop-at : goal.invariant-loop-at
-invariant-loop-at l =
-    (bound_in l.text (decl_of l.tables) l.parts ≡ bound_from l.text (decl_of l.tables) l.scope (names_of l.names) (drop l.at l.parts))
-    × (l.scope.clause ≡ None) × (l.scope.declared ≤ l.at) × (l.at ≤ length l.parts)
+abbrev pub invariant-loop-part : goal.invariant-loop-part
+invariant-loop-part l = record {
+  same : bound_in (decl_of l.schema) l.parts ≡ bound_from (decl_of l.schema) l.scope (names_of l.names) l.left;
+  outside : l.scope.clause ≡ None;
+  few : l.scope.declared + length l.left ≤ length l.parts;
+}
 
-abbrev pub decreases-loop-at : goal.decreases-loop-at
-decreases-loop-at l = length l.parts - l.at
+abbrev pub decreases-loop-part : goal.decreases-loop-part
+decreases-loop-part l = length l.left

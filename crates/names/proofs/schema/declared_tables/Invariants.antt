@@ -3,4 +3,4 @@ use Rattle.names.specs.Schema.{decl_of, declared_from, declared_in}
 use Rattle.names.proofs.schema.declared_tables.Given as goal
 
 abbrev pub invariant-loop-part : goal.invariant-loop-part
-invariant-loop-part l = declared_from l.text (decl_of l.tables) (drop l.part-index l.parts) ≡ declared_in l.text l.parts
+invariant-loop-part l = declared_from (decl_of l.schema) (drop l.part-index l.parts) ≡ declared_in l.text l.parts
