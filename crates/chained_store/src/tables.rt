@@ -6,7 +6,7 @@ ghost use Rattle.chained_store.specs.Tables.{meant, rows_of};
 use super::records::{Records, free_records};
 use chain::Cell;
 use faults::Fault;
-use store::{Entry, Store, TABLES, WIDTH};
+use store::{Entry, Store, TABLES, WIDTH, check_table};
 
 /// Tables whose rows are chained in key order: table t is chain t, and chain 0 has the free records.
 #[derive(Drop)]
@@ -42,9 +42,7 @@ impl ChainedStore<'_> {
     fn entry_at(&self, table: usize, position: usize) -> Option<Entry>
         ensures { result ≡ entry_at (meant self.now.limit self.now.raw.heads self.now.raw.cells.now) table position }
     {
-        if table == 0 || table > TABLES {
-            return None;
-        }
+        check_table(table).ok()?;
         self.raw.entry(table, position)
     }
 }
@@ -57,9 +55,7 @@ impl Store for ChainedStore<'_> {
     }
 
     fn count(&self, table: usize) -> Result<usize, Fault> {
-        if table == 0 || table > TABLES {
-            return Err(Fault::NotThere { table });
-        }
+        check_table(table)?;
         Ok(self.raw.rows(table))
     }
 
@@ -78,9 +74,7 @@ impl Store for ChainedStore<'_> {
     }
 
     fn put(&mut self, table: usize, key: i32, row: [i32; WIDTH]) -> Result<(), Fault> {
-        if table == 0 || table > TABLES {
-            return Err(Fault::NotThere { table });
-        }
+        check_table(table)?;
         let Err(before) = self.raw.find(table, key) else {
             return Err(Fault::KeyTaken { table });
         };
@@ -92,9 +86,7 @@ impl Store for ChainedStore<'_> {
     }
 
     fn take(&mut self, table: usize, key: i32) -> Result<[i32; WIDTH], Fault> {
-        if table == 0 || table > TABLES {
-            return Err(Fault::NotThere { table });
-        }
+        check_table(table)?;
         let Ok(before) = self.raw.find(table, key) else {
             return Err(Fault::NotThere { table });
         };

@@ -1,6 +1,5 @@
 //! The words that are no names.
 ghost use Rattle.std.specs.Prelude.{◌≡◌};
-ghost use Rattle.std.specs.Str.{bytes_eq};
 ghost use Rattle.lexer.specs.Keywords.{spell, keyword_of};
 
 #[derive(Clone, Copy, PartialEq, Eq)]
@@ -119,13 +118,6 @@ const KEYWORDS: [Keyword; 34] = [
     Keyword::True,
     Keyword::False,
 ];
-
-/// Whether two texts have the same bytes.
-pub fn same(a: &[u8], b: &[u8]) -> bool
-    ensures { result ≡ bytes_eq a.now b.now }
-{
-    a == b
-}
 
 // No TryFrom: a word that is no keyword is a name and no error, so an Option says it all.
 

@@ -6,7 +6,6 @@ ghost use Rattle.model.specs.Models.{contents};
 use super::program::{Item, Line};
 use super::schema::{Check, Reference, Table, Variable};
 use faults::Fault;
-use std::alloc::Global;
 
 /// A checked model: its own text, which its names are parts of, and its tables, references, checks, variables, statements and their parts,
 /// each in text order. The program is the block that begins at the first line.
@@ -24,7 +23,7 @@ pub struct Model {
 
 impl Model {
     /// The same model in memory of its own, from the heap that holds the model; only want of memory hinders it.
-    pub fn copy(&self, _heap: Global) -> Result<Model, Fault>
+    pub fn copy(&self) -> Result<Model, Fault>
         ensures { MatchResult result (λ m. contents m ≡ contents self.now) (λ f. f ≡ Memory) }
     {
         Ok(self.clone()?)

@@ -160,7 +160,7 @@ mod tests {
     #[test]
     fn a_copy_has_all_parts(rt: HostRuntime) -> Result<(), Fail> {
         let heap = rt.alloc();
-        let copy = sample(heap)?.copy(heap)?;
+        let copy = sample(heap)?.copy()?;
         assert_eq!(rt; copy.table_count(), 1);
         assert_eq!(rt; copy.variable_count(), 2);
         assert_eq!(rt; copy.statement_count(), 5);

@@ -3,7 +3,7 @@ ghost use Rattle.std.specs.Prelude.{◌≡◌};
 ghost use Rattle.lexer.specs.Tokens.{lexeme_of};
 ghost use Rattle.terms.specs.declared.pull.Word.{Word};
 ghost use Rattle.terms.specs.declared.pull.Word.TheVariants as word;
-ghost use Rattle.terms.specs.Pull.{word_of, pulled, is_sign, is_keyword, must_be, taken_from};
+ghost use Rattle.terms.specs.Pull.{word_of, pulled, must_be, taken_from};
 
 use faults::Fault;
 use lexer::keywords::Keyword;
@@ -88,18 +88,4 @@ pub fn pull(text: &[u8], at: usize) -> Result<Pulled, Fault>
         }
         None => Err(Fault::NotAllowed { place: text.len() }),
     }
-}
-
-/// Whether a token is this sign.
-pub fn is_sign(word: Word, sign: Sign) -> bool
-    ensures { result ≡ is_sign sign word }
-{
-    word == Word::Sign(sign)
-}
-
-/// Whether a token is this keyword.
-pub fn is_keyword(word: Word, keyword: Keyword) -> bool
-    ensures { result ≡ is_keyword keyword word }
-{
-    word == Word::Keyword(keyword)
 }

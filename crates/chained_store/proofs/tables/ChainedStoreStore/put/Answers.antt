@@ -1,8 +1,9 @@
-use Rattle.std.proofs.Common.{ap, ◌∙◌, arith, w32}
+use Rattle.std.proofs.Common.{◌≡◌, true, ap, ◌∙◌, arith, w32, rules}
 use Rattle.std.specs.List.{insert}
 use Rattle.std.proofs.lemmas.Int.{to_z-of_z}
 use Rattle.chain.specs.Lists.{nodes_of, Before}
-use Rattle.store.specs.Meaning.{rank}
+use Rattle.store.specs.Meaning.{is_table, rank}
+use Rattle.store.proofs.Calls.{table_from}
 use Rattle.store.proofs.Rows.{rank_le}
 use Rattle.store.proofs.Keeping.{put_here}
 use Rattle.chained_store.specs.Tables.{rows_of}
@@ -11,6 +12,8 @@ use Rattle.chained_store.proofs.tables.ChainedStoreStore.put.Goals as goal
 
 pub insert-requires : goal.insert-requires
 insert-requires c =
+    let it : is_table c.args.table ≡ true = search rules in
+    let within = table_from c.args.table it in
     let f = missed c.args.key (nodes_of c.args.self.now.raw.heads c.args.self.now.raw.cells.now c.args.table) (rows_of c.args.self.now.raw.heads c.args.self.now.raw.cells.now c.args.table) c.in-Err.before c.ranges.key c.in-Err.ensures in
     let h = held c.args.self.now in
     record {
@@ -22,6 +25,8 @@ insert-requires c =
 
 pub returns : goal.returns
 returns c =
+    let it : is_table c.args.table ≡ true = search rules in
+    let within = table_from c.args.table it in
     let f = missed c.args.key (nodes_of c.args.self.now.raw.heads c.args.self.now.raw.cells.now c.args.table) (rows_of c.args.self.now.raw.heads c.args.self.now.raw.cells.now c.args.table) c.in-Err.before c.ranges.key c.in-Err.ensures in
     let before : Before (nodes_of c.args.self.now.raw.heads c.args.self.now.raw.cells.now c.args.table) c.in-Err.before (rank c.args.key (rows_of c.args.self.now.raw.heads c.args.self.now.raw.cells.now c.args.table)) = (omega (arith, rank_le c.args.key (rows_of c.args.self.now.raw.heads c.args.self.now.raw.cells.now c.args.table), length_rows c.args.self.now.raw.heads c.args.self.now.raw.cells.now c.args.table), f.1) in
     let p = put_here c.args.self.now.limit (rows_of c.args.self.now.raw.heads c.args.self.now.raw.cells.now) c.args.table (omega arith) (omega arith) (held c.args.self.now).kept
@@ -32,6 +37,8 @@ returns c =
 
 pub invariant_of-self : goal.invariant_of-self
 invariant_of-self c =
+    let it : is_table c.args.table ≡ true = search rules in
+    let within = table_from c.args.table it in
     let f = missed c.args.key (nodes_of c.args.self.now.raw.heads c.args.self.now.raw.cells.now c.args.table) (rows_of c.args.self.now.raw.heads c.args.self.now.raw.cells.now c.args.table) c.in-Err.before c.ranges.key c.in-Err.ensures in
     let before : Before (nodes_of c.args.self.now.raw.heads c.args.self.now.raw.cells.now c.args.table) c.in-Err.before (rank c.args.key (rows_of c.args.self.now.raw.heads c.args.self.now.raw.cells.now c.args.table)) = (omega (arith, rank_le c.args.key (rows_of c.args.self.now.raw.heads c.args.self.now.raw.cells.now c.args.table), length_rows c.args.self.now.raw.heads c.args.self.now.raw.cells.now c.args.table), f.1) in
     let p = put_here c.args.self.now.limit (rows_of c.args.self.now.raw.heads c.args.self.now.raw.cells.now) c.args.table (omega arith) (omega arith) (held c.args.self.now).kept

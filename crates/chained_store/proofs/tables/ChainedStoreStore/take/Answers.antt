@@ -1,6 +1,7 @@
-use Rattle.std.proofs.Common.{ap, ◌∙◌, arith}
+use Rattle.std.proofs.Common.{◌≡◌, true, ap, ◌∙◌, arith, rules}
 use Rattle.chain.specs.Lists.{nodes_of, Before}
-use Rattle.store.specs.Meaning.{rank}
+use Rattle.store.specs.Meaning.{is_table, rank}
+use Rattle.store.proofs.Calls.{table_from}
 use Rattle.store.proofs.Rows.{rank_lt}
 use Rattle.store.proofs.Keeping.{take_here}
 use Rattle.chained_store.specs.Tables.{rows_of}
@@ -9,6 +10,8 @@ use Rattle.chained_store.proofs.tables.ChainedStoreStore.take.Goals as goal
 
 pub remove-requires : goal.remove-requires
 remove-requires c =
+    let it : is_table c.args.table ≡ true = search rules in
+    let within = table_from c.args.table it in
     let f = found c.args.key (nodes_of c.args.self.now.raw.heads c.args.self.now.raw.cells.now c.args.table) (rows_of c.args.self.now.raw.heads c.args.self.now.raw.cells.now c.args.table) c.in-Ok.before c.ranges.key c.in-Ok.ensures in
     let l = rank_lt c.args.key (rows_of c.args.self.now.raw.heads c.args.self.now.raw.cells.now c.args.table) f.0 in
     let lr = length_rows c.args.self.now.raw.heads c.args.self.now.raw.cells.now c.args.table in
@@ -20,6 +23,8 @@ remove-requires c =
 
 pub returns : goal.returns
 returns c =
+    let it : is_table c.args.table ≡ true = search rules in
+    let within = table_from c.args.table it in
     let f = found c.args.key (nodes_of c.args.self.now.raw.heads c.args.self.now.raw.cells.now c.args.table) (rows_of c.args.self.now.raw.heads c.args.self.now.raw.cells.now c.args.table) c.in-Ok.before c.ranges.key c.in-Ok.ensures in
     let l = rank_lt c.args.key (rows_of c.args.self.now.raw.heads c.args.self.now.raw.cells.now c.args.table) f.0 in
     let lr = length_rows c.args.self.now.raw.heads c.args.self.now.raw.cells.now c.args.table in
@@ -32,6 +37,8 @@ returns c =
 
 pub invariant_of-self : goal.invariant_of-self
 invariant_of-self c =
+    let it : is_table c.args.table ≡ true = search rules in
+    let within = table_from c.args.table it in
     let f = found c.args.key (nodes_of c.args.self.now.raw.heads c.args.self.now.raw.cells.now c.args.table) (rows_of c.args.self.now.raw.heads c.args.self.now.raw.cells.now c.args.table) c.in-Ok.before c.ranges.key c.in-Ok.ensures in
     let l = rank_lt c.args.key (rows_of c.args.self.now.raw.heads c.args.self.now.raw.cells.now c.args.table) f.0 in
     let lr = length_rows c.args.self.now.raw.heads c.args.self.now.raw.cells.now c.args.table in
