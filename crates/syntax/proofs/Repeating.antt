@@ -4,12 +4,6 @@ use Rattle.faults.specs.declared.Fault.{Fault}
 use Rattle.syntax.specs.Repeats.{onward, repeated}
 
 module _ {S : Type 0} (one : S → Result (Option S) Fault) where
-  -- Nothing more is taken.
-  pub repeated_done : (n : ℕ) (s : S) → n ≡ 0 → repeated one n s ≡ Ok s
-  unfolding repeated
-  repeated_done zero s h = refl
-  repeated_done (suc n) s h = absurd (omega arith)
-
   -- No thing more comes.
   pub repeated_none : (n : ℕ) (s : S) → one s ≡ Ok None → repeated one n s ≡ Ok s
   unfolding repeated

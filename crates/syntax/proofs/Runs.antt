@@ -8,11 +8,11 @@ use Rattle.lexer.specs.Tokens.{after}
 use Rattle.lexer.proofs.Laws.{next_advances}
 use Rattle.terms.specs.declared.pull.Pulled.{Pulled}
 use Rattle.terms.specs.declared.shapes.Want.{Want}
-use Rattle.terms.specs.Pull.{and_then, pulled, is_sign, is_keyword, is_name, sign_at, keyword_at, name_at}
+use Rattle.terms.specs.Pull.{and_then, pulled, is_sign, sign_at, keyword_at, name_at}
 use Rattle.terms.specs.Terms.{term_at}
 use Rattle.terms.specs.Trees.{Token, name, keyword, sign, Tree, words_of}
 use Rattle.terms.specs.Grammar.{Stands}
-use Rattle.terms.proofs.Steps.{then_ok, then_by, word_in, sign_is, keyword_is, name_is, came, sign_came, keyword_came, name_came, stands_append, stands_split, first, sign_read, keyword_read, name_read}
+use Rattle.terms.proofs.Steps.{then_ok, then_by, word_in, sign_is, came, sign_came, keyword_came, name_came, stands_append, stands_split, first, sign_read, keyword_read, name_read}
 use Rattle.terms.proofs.Accepting.{found_term}
 use Rattle.terms.proofs.Completing.{stops, stopped, complete}
 use Rattle.syntax.specs.Clauses.{term_end}
@@ -151,12 +151,3 @@ module _ (text : List ℕ) where
   -- A token that was pulled is this one.
   pub pulled_sign : (g : Sign) (at : ℕ) (p : Pulled) → pulled text at ≡ Ok p → is_sign g p.word ≡ true → Run text at (sign g ∷ []) p.end
   pulled_sign g at p h b = let c = came text at p h in record { stands = subst (λ w. Stands text at (w ∷ []) p.end) (sign_is g c.token (sym (ap (is_sign g) c.is) ∙ b)) c.stands }
-
-  pub pulled_keyword : (k : Keyword) (at : ℕ) (p : Pulled) → pulled text at ≡ Ok p → is_keyword k p.word ≡ true → Run text at (keyword k ∷ []) p.end
-  pulled_keyword k at p h b = let c = came text at p h in record { stands = subst (λ w. Stands text at (w ∷ []) p.end) (keyword_is k c.token (sym (ap (is_keyword k) c.is) ∙ b)) c.stands }
-
-  pub pulled_name : (at : ℕ) (p : Pulled) → pulled text at ≡ Ok p → is_name p.word ≡ true → (x : List ℕ) × Run text at (name x ∷ []) p.end
-  pulled_name at p h b =
-      let c = came text at p h in
-      let n = name_is c.token (sym (ap is_name c.is) ∙ b) in
-      (n.0, record { stands = subst (λ w. Stands text at (w ∷ []) p.end) n.1 c.stands })
