@@ -24,7 +24,7 @@ pub struct Read<'a> {
     pub names: Names,
 }
 
-/// How far a text has the form of a model: up to the place of its refusal, or to its end.
+/// How far a text has the form of a model: up to the place of its refusal, or to its end. A fault with no place leaves nothing to read.
 fn form_end(text: &[u8], form: Result<(), Fault>) -> usize
     ensures { result ≡ end_of text.now form }
 {

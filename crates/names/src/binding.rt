@@ -45,6 +45,7 @@ pub enum Bound {
 #[derive(Drop)]
 pub struct Names {
     pub variables: Vec<Variable>,
+    // Beside the parts and not in pairs with them: the parts are only lent to `resolve`, and a pair would copy each.
     pub bounds: Vec<Bound>,
 }
 

@@ -47,6 +47,7 @@ fn count_table(scope: Scope, role: Role) -> Scope
     }
 }
 
+// The scope is lent to `Inside` while names are bound, so no struct holds both.
 impl Names {
     /// Binds the parts of a clause, up to the semicolon that ends it; gives the parts behind.
     #[tactic(auto, using(crate::proofs::Steps::none_left))]
