@@ -11,7 +11,7 @@ use super::scope::Choice;
 use lexer::name::Name;
 use lexer::signs::Sign;
 use roles::role::{Access, Column, Declared, Part, Role, Use};
-use terms::pull::is_sign;
+use terms::pull::Word;
 
 /// The tables and the variables of a text.
 #[derive(Clone, Copy)]
@@ -90,9 +90,9 @@ fn commas(behind: &[Part]) -> usize
     let mut left = behind;
     // A chain of `take_while`, `filter` and `count` says the same, but its proof didn't close.
     while let [part, rest @ ..] = left
-        && !is_sign(part.token.word, Sign::Semicolon)
+        && part.token.word != Word::Sign(Sign::Semicolon)
     {
-        if is_sign(part.token.word, Sign::Comma) {
+        if part.token.word == Word::Sign(Sign::Comma) {
             count += 1;
         }
         left = rest;

@@ -11,7 +11,7 @@ use faults::Fault;
 use lexer::signs::Sign;
 use roles::role::{Declared, Part, Role};
 use std::alloc::Global;
-use terms::pull::is_sign;
+use terms::pull::Word;
 
 /// Inside of a clause: while it lasts, its table's attributes hide lone variables. On every way out the earlier scope stands again.
 struct Inside<'a> {
@@ -63,7 +63,7 @@ impl Names {
         let mut left = parts;
         while let Some((part, behind)) = left.split_first() {
             self.bind(schema, scope, *part, behind)?;
-            if is_sign(part.token.word, Sign::Semicolon) {
+            if part.token.word == Word::Sign(Sign::Semicolon) {
                 return Ok(behind);
             }
             left = behind;
