@@ -50,18 +50,12 @@ abbrev pub variable_by : Decl → Names → List ℕ → ℕ
 variable_by d s b = unwrap_or (variable_found d s b) 0
 
 -- What the first SELECT into a variable chooses.
-abbrev pub choice_found : Decl → Names → List ℕ → Option Choice
-choice_found d s b = option_and_then (choice_at s.variables) (variable_found d s b)
-
 abbrev pub choice_by : Decl → Names → List ℕ → Option Choice
 choice_by d s b = choice_at s.variables (variable_by d s b)
 
 -- The attribute of v(a) is one of the table that v is selected from.
 abbrev pub cell_in : Decl → Option Choice → List ℕ → Option ℕ
 cell_in d c b = option_and_then (λ t. field_by d t b) (option_and_then (λ (e : Choice). e.table) c)
-
-abbrev pub cell_found : Decl → Names → List ℕ → List ℕ → Option ℕ
-cell_found d s v b = cell_in d (choice_found d s v) b
 
 abbrev pub cell_by : Decl → Names → List ℕ → List ℕ → ℕ
 cell_by d s v b = unwrap_or (cell_in d (choice_by d s v) b) 0

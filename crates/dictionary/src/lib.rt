@@ -1,8 +1,8 @@
 //! What the names of a checked text stand for, by number.
 #![tactic(auto)]
 
-ghost use Rattle.std.specs.Prelude.{◌≡◌, IsSome, unwrap_or};
-ghost use Rattle.dictionary.specs.Dictionary.{tables_in, names_in, written, table_found, field_by, hides_by, variable_found, choice_found, cell_found, cell_by};
+ghost use Rattle.std.specs.Prelude.{◌≡◌};
+ghost use Rattle.dictionary.specs.Dictionary.{tables_in, names_in, written, table_found, field_by, hides_by, variable_found, choice_by, cell_in};
 
 use lexer::name::Name;
 use names::faulty::Bindings;
@@ -44,17 +44,18 @@ impl Dictionary<'_> {
         self.bindings.names.variable_place(text, name)
     }
 
-    /// What the first SELECT into a variable chooses.
+    /// What the first SELECT into a variable chooses; a name that is no variable's is read as the first variable's.
+    // 0 and no `None`: the dictionary has a number for every name, and `cell_of` promises it.
     fn choice_of(&self, name: Name) -> Option<Choice>
-        ensures { result ≡ choice_found (tables_in self.now) (names_in self.now) (written self.now name) }
+        ensures { result ≡ choice_by (tables_in self.now) (names_in self.now) (written self.now name) }
     {
-        self.bindings.names.choice_at(self.variable_of(name)?)
+        let variable = self.variable_of(name).unwrap_or(0);
+        self.bindings.names.choice_at(variable)
     }
 
     /// The place of the attribute of v(a) in the table that v is selected from.
     pub fn cell_of(&self, variable: Name, name: Name) -> Option<usize>
-        ensures value { result ≡ cell_found (tables_in self.now) (names_in self.now) (written self.now variable) (written self.now name) }
-        ensures known { IsSome (variable_found (tables_in self.now) (names_in self.now) (written self.now variable)) → unwrap_or result 0 ≡ cell_by (tables_in self.now) (names_in self.now) (written self.now variable) (written self.now name) }
+        ensures { result ≡ cell_in (tables_in self.now) (choice_by (tables_in self.now) (names_in self.now) (written self.now variable)) (written self.now name) }
     {
         self.place_of(self.choice_of(variable)?.table?, name)
     }

@@ -10,7 +10,7 @@ use classes::{Class, class_of};
 pub(crate) fn reach<F: Fn(Class) -> bool>(bytes: &[u8], goes_on: F) -> usize
     requires { F.IsAlwaysCallable goes_on }
     ensures within { result ≤ length bytes.now }
-    ensures value { (test : Class → Bool) → ((c : Class) (r : Bool) → F.post goes_on c r → r ≡ test c) → result ≡ prefix_len (λ b. test (class_of b)) bytes.now }
+    ensures value { (p : Class → Bool) → ((c : Class) (r : Bool) → F.post goes_on c r → r ≡ p c) → result ≡ prefix_len (λ b. p (class_of b)) bytes.now }
 {
     bytes
         .iter()

@@ -15,6 +15,7 @@ use lexer::name::Name;
 use roles::role::{Column, Declared, Part, Role, Use};
 
 /// The kind of a variable.
+// Not the checked model's `Kind`: that one's crate knows of no uses, and `From<Use>` has to stand beside a type of its own crate.
 #[derive(Clone, Copy, PartialEq, Eq)]
 pub enum Kind {
     Integer,

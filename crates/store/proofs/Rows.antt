@@ -1,4 +1,5 @@
 -- Rows in ascending order: where a key stands, and that `with_entry` and `without` keep the order.
+use Rattle.std.specs.Cmp.{int_chain}
 use Rattle.std.proofs.Common.{◌≡◌, ℕ, zero, suc, ◌+◌, ◌<◌, ◌≤◌, Bool, true, false, cond, not, List, [], ◌∷◌, ◌++◌, length, get_or, take, drop, ℤ, ◌≤ℤ◌, ◌<ℤ◌, Ok, Err, sym, refl, ap, ◌∙◌, suc-le-suc, zero-le, arith}
 use Rattle.std.specs.Int.Signed.{lt_z}
 use Rattle.std.proofs.lemmas.Int.{ints}
@@ -32,9 +33,6 @@ test_not a b h = grind (arith, ints)
 same_test : (a b : ℤ) → a ≡ b → not (lt_z a b) ≡ true
 same_test a b h = grind (arith, ints)
 
-lt_trans : (a b c : ℤ) → a <ℤ b → b <ℤ c → a <ℤ c
-lt_trans a b c h k = grind (arith, ints)
-
 cond_suc_le : (b : Bool) (m n : ℕ) → m ≤ n → cond b (suc m) 0 ≤ suc n
 cond_suc_le true m n h = suc-le-suc h
 cond_suc_le false m n h = zero-le
@@ -54,7 +52,7 @@ rank_lt k (e ∷ es) h =
 
 pub above_trans : (a b : ℤ) (rows : List Entry) → a <ℤ b → Above b rows → Above a rows
 above_trans a b [] h t = tt
-above_trans a b (e ∷ es) h (p, q) = (lt_trans a b e.key h p, above_trans a b es h q)
+above_trans a b (e ∷ es) h (p, q) = (int_chain a b e.key h p, above_trans a b es h q)
 
 -- a row behind a key
 pub above_at : (a : ℤ) (rows : List Entry) (i : ℕ) (d : Entry) → Above a rows → i < length rows → a <ℤ (get_or rows i d).key

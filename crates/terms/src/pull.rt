@@ -77,6 +77,7 @@ impl Pulled {
 }
 
 /// The token that has to come from a place on.
+// It takes a text and a place and no `Reader`: a reader pulls by it, and a loop that only gathers tokens keeps no more than a place.
 pub fn pull(text: &[u8], at: usize) -> Result<Pulled, Fault>
     ensures { result ≡ pulled text.now at }
 {
