@@ -22,6 +22,7 @@ fn byte_of(high: u8, low: u8) -> Option<u8>
 }
 
 /// The bytes that pairs of digits are; `None` where a digit is wrong or has no other.
+// An Option in the Result: no memory is an error of the call, and no digits is an answer.
 pub fn hex_bytes(heap: Global, text: &[u8]) -> Result<Option<Vec<u8>>, AllocError>
     ensures { IfOk result (λ o. option_map vec_items o ≡ bytes_of text.now) }
 {

@@ -109,6 +109,7 @@ impl<'a> Part<'a> {
 }
 
 /// The next token from a place on, past the blanks there, and the place after it; or `None` where the text has ended.
+// The place stands beside the token: readers go on from it, and each would have to add it up and show that it fits.
 pub fn next_token<'a>(text: &'a [u8], at: usize) -> Result<Option<(Token<'a>, usize)>, Fault>
     ensures value { next_read result ≡ with_end (next_token text.now at) }
     ensures advances { IfOk result (λ o. IfSome o (λ n. Advances text.now at (lexeme_of n.0))) }

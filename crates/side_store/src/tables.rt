@@ -10,6 +10,7 @@ use std::ops::Range;
 use store::{Entry, Store, TABLES, WIDTH, check_table};
 
 /// Tables whose rows stand side by side: table t has `limit` slots from place (t - 1) * limit on.
+// Slots with counts beside them and no `Vec`: a store takes no heap, and its rows lie in the memory that it is lent.
 #[derive(Drop)]
 pub struct SideStore<'a> {
     slots: &'a mut [Entry],

@@ -37,6 +37,7 @@ impl<S: Store> Tables for S {
     }
 }
 
+// Data and no closure: the same step is taken by three tables, and the answer is counted by its kind.
 #[derive(Clone, Copy)]
 pub enum Work {
     Put,
