@@ -2,7 +2,7 @@
 use Rattle.std.proofs.Common.{◌≡◌, ℕ, zero, suc, ◌+◌, ◌-◌, ◌*◌, ◌^◌, ◌<◌, ◌≤◌, Bool, true, false, cond, eqb, ltb, leb, List, [], ◌∷◌, ◌++◌, map, length, get_or, set, slice_get, Some, None, IfSome, Ok, Err, Option, Result, sym, refl, ap, ◌∙◌, inl, inr, add-one, arith}
 use Rattle.std.specs.Option.{option_map}
 use Rattle.std.proofs.lemmas.List.{length-map}
-use Rattle.std.proofs.lemmas.Bool.{cond-true, cond-false, cases_Bool, ltb-true, leb-true, and_parts}
+use Rattle.std.proofs.lemmas.Bool.{cond-true, cond-false, cases_Bool, ltb-true, leb-true, lt-ltb, le-leb, and_from, and_parts}
 use Rattle.faults.specs.declared.Fault.{Fault}
 use Rattle.faults.specs.declared.Fault.TheVariants.{BadCase}
 use Rattle.cases.specs.Words.{record_word}
@@ -28,6 +28,10 @@ pub out_none : (ok : ℕ → Bool) (w count : ℕ) → count ≡ 0 → first_out
 out_none ok w count e = ap (first_out ok w) e
 
 -- ---- chains
+
+-- A number from 1 up to the count of records is an index.
+pub is_index_lem : (n i : ℕ) → 0 < i → i ≤ n → is_index n i ≡ true
+is_index_lem n i a b = and_from _ _ (lt-ltb 0 i a) (le-leb i n b)
 
 -- A trail from a word of the file.
 pub record IsTrail (b : List ℕ) (n : ℕ) (hs : List (ℕ × ℕ)) : Type 0 where

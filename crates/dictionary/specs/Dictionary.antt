@@ -5,20 +5,14 @@ use Rattle.std.specs.Str.{bytes_eq}
 use Rattle.lexer.specs.declared.name.Name.{Name}
 use Rattle.lexer.specs.Names.{spelled}
 use Rattle.names.specs.declared.scope.Choice.{Choice}
-use Rattle.names.specs.Schema.{Decl, decl_of, counted, fields_of}
-use Rattle.names.specs.Binding.{Names, names_of, choice_at}
+use Rattle.names.specs.Schema.{Decl, counted, fields_of}
+use Rattle.names.specs.Binding.{Names, choice_at}
 use Rattle.model.specs.Elaborate.{Dictionary}
-use Rattle.dictionary.specs.declared.Dictionary as code
+use Rattle.dictionary.specs.declared.TableNames.{TableNames}
 
--- The tables and the variables of a dictionary, and the bytes of a name.
-abbrev pub tables_in : code.Dictionary → Decl
-tables_in s = decl_of s.bindings.schema.now
-
-abbrev pub names_in : code.Dictionary → Names
-names_in s = names_of s.bindings.names.now
-
-abbrev pub written : code.Dictionary → Name → List ℕ
-written s n = spelled s.bindings.schema.now.text.now n
+-- The bytes of a name.
+abbrev pub written : TableNames → Name → List ℕ
+written s n = spelled s.schema.text.now n
 
 -- The place of the first of some words that is written with these bytes.
 abbrev pub word_place : List (List ℕ) → List ℕ → Option ℕ

@@ -98,7 +98,7 @@ fn items(heap: Global) -> Result<Vec<Item>, Fault> {
 }
 
 /// The model g.
-pub fn sample(heap: Global) -> Result<Model, Fault> {
+fn sample(heap: Global) -> Result<Model, Fault> {
     let below = Check {
         of: 1,
         at: 1,

@@ -10,6 +10,8 @@ use Rattle.roles.specs.declared.role.Part.{Part}
 use Rattle.roles.specs.Roles.{name_of}
 use Rattle.names.specs.declared.schema.Table as code
 use Rattle.names.specs.declared.schema.Schema.{Schema}
+use Rattle.names.specs.declared.schema.Tables.{Tables}
+use Rattle.names.specs.declared.schema.Declaring.{Declaring}
 use Rattle.names.specs.Spelled.{same_name, place_among}
 
 -- A table: its name, the names of its attributes, and which of these is its key.
@@ -27,7 +29,14 @@ abbrev pub table_of : code.Table → Table
 table_of t = record { title = t.title; fields = vec_items t.fields; key = t.key }
 
 abbrev pub decl_of : Schema → Decl
-decl_of s = record { text = s.text.now; tables = map table_of (vec_items s.tables) }
+decl_of s = record { text = s.text.now; tables = map table_of s.tables.now }
+
+-- The tables of a text.
+abbrev pub decl_in : List ℕ → Tables → Decl
+decl_in text t = record { text = text; tables = map table_of (vec_items t.tables) }
+
+abbrev pub declared_so : Declaring → Decl
+declared_so s = record { text = s.text.now; tables = map table_of (vec_items s.tables) }
 
 -- A number counted from 1 for what stands at a place from 0.
 abbrev pub counted : Option ℕ → Option ℕ

@@ -3,7 +3,7 @@ ghost use Rattle.std.specs.Prelude.{◌≡◌, ◌<◌, length, position, option
 ghost use Rattle.faults.specs.declared.Fault.TheVariants.{Memory};
 ghost use Rattle.roles.specs.Roles.{name_of};
 ghost use Rattle.names.specs.Spelled.{same_name};
-ghost use Rattle.names.specs.Schema.{decl_of, table_of, table_numbered, table_number, begun, grown, keyed, declared_by, declared_in, fields_of, field_place};
+ghost use Rattle.names.specs.Schema.{decl_of, decl_in, declared_so, table_of, table_numbered, table_number, begun, grown, keyed, declared_by, declared_in, fields_of, field_place};
 
 use super::name::{is_same, place_among};
 use faults::Fault;
@@ -19,11 +19,29 @@ pub struct Table {
     pub key: Option<usize>,
 }
 
-/// The tables that a text declares, in its order, with the text that their names stand in.
+/// The tables that a text declares, in its order.
 #[derive(Drop)]
+pub struct Tables {
+    pub tables: Vec<Table>,
+}
+
+impl Tables {
+    /// The tables with the text that their names stand in.
+    pub fn schema<'a>(&'a self, text: &'a [u8]) -> Schema<'a>
+        ensures { decl_of result ≡ decl_in text.now self.now }
+    {
+        Schema {
+            text,
+            tables: self.tables.as_slice(),
+        }
+    }
+}
+
+/// Tables and the text that their names stand in, lent for a call.
+#[derive(Clone, Copy)]
 pub struct Schema<'a> {
     pub text: &'a [u8],
-    pub tables: Vec<Table>,
+    pub tables: &'a [Table],
 }
 
 /// The place of the first table with a name.
@@ -41,7 +59,7 @@ impl Schema<'_> {
     pub fn table_number(&self, name: Name) -> Option<usize>
         ensures { result ≡ table_number (decl_of self.now) name }
     {
-        let place = title_among(self.text, self.tables.as_slice(), name)?;
+        let place = title_among(self.text, self.tables, name)?;
         Some(place + 1)
     }
 
@@ -68,10 +86,19 @@ impl Schema<'_> {
     {
         place_among(self.text, self.fields(table), name)
     }
+}
 
+/// The tables declared so far, while the parts of a text are gone through.
+#[derive(Drop)]
+struct Declaring<'a> {
+    text: &'a [u8],
+    tables: Vec<Table>,
+}
+
+impl Declaring<'_> {
     /// TABLE t: one table more, with no attribute yet.
     fn begin(&mut self, heap: Global, title: Name) -> Result<(), Fault>
-        ensures { MatchResult result (λ _. decl_of self.new ≡ begun (decl_of self.old) title) (λ f. f ≡ Memory) }
+        ensures { MatchResult result (λ _. declared_so self.new ≡ begun (declared_so self.old) title) (λ f. f ≡ Memory) }
     {
         self.tables.push(Table {
             title,
@@ -83,7 +110,7 @@ impl Schema<'_> {
 
     /// One attribute more of the table declared last.
     fn grow(&mut self, field: Name) -> Result<(), Fault>
-        ensures { MatchResult result (λ _. decl_of self.new ≡ grown (decl_of self.old) field) (λ f. f ≡ Memory) }
+        ensures { MatchResult result (λ _. declared_so self.new ≡ grown (declared_so self.old) field) (λ f. f ≡ Memory) }
     {
         if let Some(table) = self.tables.last_mut() {
             table.fields.push(field)?;
@@ -93,7 +120,7 @@ impl Schema<'_> {
 
     /// PRIMARY KEY(a): the key of the table declared last.
     fn set_key(&mut self, name: Name)
-        ensures { decl_of self.new ≡ keyed (decl_of self.old) name }
+        ensures { declared_so self.new ≡ keyed (declared_so self.old) name }
     {
         if let Some(table) = self.tables.last_mut() {
             table.key = place_among(self.text, table.fields.as_slice(), name);
@@ -102,7 +129,7 @@ impl Schema<'_> {
 
     /// What one part more declares.
     fn declare(&mut self, heap: Global, part: Part) -> Result<(), Fault>
-        ensures { MatchResult result (λ _. decl_of self.new ≡ declared_by (decl_of self.old) (name_of part) part.role) (λ f. f ≡ Memory) }
+        ensures { MatchResult result (λ _. declared_so self.new ≡ declared_by (declared_so self.old) (name_of part) part.role) (λ f. f ≡ Memory) }
     {
         match part.role {
             Role::Declared(Declared::Table) => self.begin(heap, part.name()),
@@ -114,23 +141,27 @@ impl Schema<'_> {
             _ => Ok(()),
         }
     }
+
+    /// The tables, all declared.
+    fn finish(self) -> Tables
+        ensures { decl_in self.entry.text.now result ≡ declared_so self.entry }
+    {
+        let Declaring { text: _, tables } = self;
+        Tables { tables }
+    }
 }
 
 /// The tables that the parts of a text declare.
 #[tactic(auto, unfolding(crate::specs::Schema::declared_from))]
-pub fn declared_tables<'a>(
-    heap: Global,
-    text: &'a [u8],
-    parts: &[Part],
-) -> Result<Schema<'a>, Fault>
-    ensures { MatchResult result (λ s. decl_of s ≡ declared_in text.now parts.now) (λ f. f ≡ Memory) }
+pub fn declared_tables(heap: Global, text: &[u8], parts: &[Part]) -> Result<Tables, Fault>
+    ensures { MatchResult result (λ t. decl_in text.now t ≡ declared_in text.now parts.now) (λ f. f ≡ Memory) }
 {
-    let mut schema = Schema {
+    let mut declaring = Declaring {
         text,
         tables: Vec::new(heap),
     };
     for part in parts {
-        schema.declare(heap, *part)?;
+        declaring.declare(heap, *part)?;
     }
-    Ok(schema)
+    Ok(declaring.finish())
 }

@@ -1,45 +1,43 @@
 //! The names of short models, each expected answer worked out by hand from the rules.
 #![tactic(auto)]
 
-use dictionary::Dictionary;
+use dictionary::{Dictionary, TableNames};
 use faults::Fault;
 use lexer::name::Name;
 use model_check::naming::{Read, read_names};
-use names::faulty::Bindings;
 use std::alloc::Global;
 
 /// The numbers that a read model has for a name: as a table, as an attribute of table 1, and as a variable.
-pub fn numbers(read: &Read, name: Name) -> (Option<usize>, Option<usize>, Option<usize>) {
+fn numbers(read: &Read, text: &[u8], name: Name) -> (Option<usize>, Option<usize>, Option<usize>) {
+    let tables = TableNames {
+        schema: read.tables.schema(text),
+    };
     let dictionary = Dictionary {
-        bindings: Bindings {
-            schema: &read.schema,
-            names: &read.names,
-        },
+        tables,
+        names: &read.names,
     };
     (
-        dictionary.table_of(name),
-        dictionary.place_of(1, name),
+        tables.table_of(name),
+        tables.place_of(1, name),
         dictionary.variable_of(name),
     )
 }
 
 /// The place of the attribute of v(a) for two names of a read model.
-pub fn cell(read: &Read, variable: Name, name: Name) -> Option<usize> {
+fn cell(read: &Read, text: &[u8], variable: Name, name: Name) -> Option<usize> {
+    let tables = TableNames {
+        schema: read.tables.schema(text),
+    };
     let dictionary = Dictionary {
-        bindings: Bindings {
-            schema: &read.schema,
-            names: &read.names,
-        },
+        tables,
+        names: &read.names,
     };
     dictionary.cell_of(variable, name)
 }
 
 /// Whether the first name at fault of a model stands at a place.
-pub fn wrong_at(heap: Global, text: &[u8], place: usize) -> bool {
-    match read_names(heap, text) {
-        Ok(_) => false,
-        Err(fault) => fault == Fault::WrongName { place },
-    }
+fn wrong_at(heap: Global, text: &[u8], place: usize) -> bool {
+    read_names(heap, text).is_err_and(|fault| fault == Fault::WrongName { place })
 }
 
 #[cfg(test)]
@@ -56,14 +54,14 @@ mod tests {
         let b = Name { place: 18, end: 19 };
         let c = Name { place: 41, end: 42 };
         let v = Name { place: 44, end: 45 };
-        assert!(rt; numbers(&read, s) == (Some(1), None, None));
-        assert!(rt; numbers(&read, b) == (None, Some(1), None));
-        assert!(rt; numbers(&read, c) == (None, None, Some(0)));
-        assert!(rt; numbers(&read, v) == (None, None, Some(1)));
-        assert!(rt; cell(&read, v, b) == Some(1));
-        assert!(rt; cell(&read, c, b) == None);
-        assert!(rt; read.schema.fields(1).len() == 2);
-        assert!(rt; read.schema.fields(2).is_empty());
+        assert!(rt; numbers(&read, text, s) == (Some(1), None, None));
+        assert!(rt; numbers(&read, text, b) == (None, Some(1), None));
+        assert!(rt; numbers(&read, text, c) == (None, None, Some(0)));
+        assert!(rt; numbers(&read, text, v) == (None, None, Some(1)));
+        assert!(rt; cell(&read, text, v, b) == Some(1));
+        assert!(rt; cell(&read, text, c, b) == None);
+        assert!(rt; read.tables.schema(text).fields(1).len() == 2);
+        assert!(rt; read.tables.schema(text).fields(2).is_empty());
         Ok(())
     }
 

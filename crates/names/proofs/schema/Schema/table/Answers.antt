@@ -1,5 +1,4 @@
-use Rattle.std.proofs.Common.{◌≡◌, suc, map, ap, ◌∙◌, arith}
-use Rattle.std.specs.List.{slice_get}
+use Rattle.std.proofs.Common.{◌≡◌, suc, ap, ◌∙◌, arith}
 use Rattle.names.specs.Schema.{decl_of, table_of, table_numbered}
 use Rattle.names.proofs.Tables.{read_at}
 use Rattle.names.proofs.schema.Schema.table.Goals as goal
@@ -9,6 +8,5 @@ returns c =
     let i = c.in_ok-checked_sub.field-0 in
     let l = c.get.ensures.lookup in
     let next : suc i ≡ c.args.table = omega (arith, c.in_ok-checked_sub.ensures) in
-    read_at table_of c.deref.result.now i c.get.result l.0 l.1
-    ∙ ap (λ ts. slice_get (map table_of ts) i) c.deref.ensures.value
+    read_at table_of c.args.self.now.tables.now i c.get.result l.0 l.1
     ∙ ap (table_numbered (decl_of c.args.self.now)) next

@@ -2,7 +2,7 @@ use Rattle.std.proofs.Common.{◌-◌, vec_len, refl, ap, ◌∙◌, arith}
 use Rattle.names.specs.Spelled.{place_among}
 use Rattle.names.specs.Schema.{keyed_by}
 use Rattle.names.proofs.Tables.{changed}
-use Rattle.names.proofs.schema.Schema.set_key.Goals as goal
+use Rattle.names.proofs.schema.Declaring.set_key.Goals as goal
 
 pub returns-in-Some : goal.returns-in-Some
 returns-in-Some c =

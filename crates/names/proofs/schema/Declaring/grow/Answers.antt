@@ -1,7 +1,7 @@
 use Rattle.std.proofs.Common.{◌-◌, vec_len, refl, ap, arith}
 use Rattle.names.specs.Schema.{widened}
 use Rattle.names.proofs.Tables.{changed}
-use Rattle.names.proofs.schema.Schema.grow.Goals as goal
+use Rattle.names.proofs.schema.Declaring.grow.Goals as goal
 
 pub returns-in_ok-push : goal.returns-in_ok-push
 returns-in_ok-push c =
