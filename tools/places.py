@@ -11,7 +11,7 @@ import pathlib
 import re
 import sys
 
-ROOT = pathlib.Path(sys.argv[2] if len(sys.argv) > 2 else pathlib.Path(__file__).resolve().parent.parent)
+ROOT = pathlib.Path(sys.argv[2]) if len(sys.argv) > 2 else pathlib.Path(__file__).resolve().parent.parent
 SOURCES = sorted(ROOT.glob("crates/*/src/**/*.rt"))
 
 
@@ -26,7 +26,7 @@ def lines(pattern):
 
 def functions():
     """Each function: its crate, file, name, parameters, clauses and body."""
-    head = re.compile(r"^( *)(?:pub(?:\([a-z]+\))? )?(?:final )?fn (\w+)(?:<[^{;]*?>)?\((.*?)\)(?: -> [^{;]*?)?\n?((?:\s*(?:requires|ensures)\*?[^\n]*\n)*)\s*\{\n(.*?)^\1\}", re.S | re.M)
+    head = re.compile(r"^( *)(?:pub(?:\([a-z]+\))? )?(?:final )?fn (\w+)(?:<[^{;]*?>)?\((.*?)\)(?: -> (?:\[[^\]]*\]|[^{;])*?)?\n?((?:\s*(?:requires|ensures)\*?[^\n]*\n)*)\s*\{\n(.*?)^\1\}", re.S | re.M)
     for path in SOURCES:
         for found in head.finditer(path.read_text()):
             name, params, clauses, body = found.group(2), found.group(3), found.group(4), found.group(5)
