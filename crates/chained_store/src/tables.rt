@@ -1,6 +1,6 @@
 //! The store with chained records.
-ghost use Rattle.std.specs.Prelude.{◌≡◌, ℕ, ◌*◌, ◌<◌, ◌≤◌, true, length};
-ghost use Rattle.store.specs.Meaning.{is_limit, entry_at, ascending, empty_of};
+ghost use Rattle.std.specs.Prelude.{◌≡◌, ℕ, ◌*◌, ◌<◌, ◌≤◌, true, length, slice_index_or};
+ghost use Rattle.store.specs.Meaning.{is_limit, is_position, unless14, no_entry, ascending, empty_of};
 ghost use Rattle.chained_store.specs.Tables.{meant, rows_of};
 
 use super::records::{Records, free_records};
@@ -38,12 +38,14 @@ impl<'a> ChainedStore<'a> {
 }
 
 impl ChainedStore<'_> {
-    /// The entry at `position` of table `table`, if it is there.
-    fn entry_at(&self, table: usize, position: usize) -> Option<Entry>
-        ensures { result ≡ entry_at (meant self.now.limit self.now.raw.heads self.now.raw.cells.now) table position }
+    /// The entry at `position` of table `table`.
+    fn entry_at(&self, table: usize, position: usize) -> Result<Entry, Fault>
+        ensures { let m = meant self.now.limit self.now.raw.heads self.now.raw.cells.now in result ≡ unless14 (is_position m table position) (slice_index_or (m.tables table) position no_entry) table }
     {
-        check_table(table).ok()?;
-        self.raw.entry(table, position)
+        check_table(table)?;
+        self.raw
+            .entry(table, position)
+            .ok_or(Fault::NotThere { table })
     }
 }
 
@@ -60,17 +62,11 @@ impl Store for ChainedStore<'_> {
     }
 
     fn key_at(&self, table: usize, position: usize) -> Result<i32, Fault> {
-        let entry = self
-            .entry_at(table, position)
-            .ok_or(Fault::NotThere { table })?;
-        Ok(entry.key)
+        Ok(self.entry_at(table, position)?.key)
     }
 
     fn row_at(&self, table: usize, position: usize) -> Result<[i32; WIDTH], Fault> {
-        let entry = self
-            .entry_at(table, position)
-            .ok_or(Fault::NotThere { table })?;
-        Ok(entry.row)
+        Ok(self.entry_at(table, position)?.row)
     }
 
     fn put(&mut self, table: usize, key: i32, row: [i32; WIDTH]) -> Result<(), Fault> {
