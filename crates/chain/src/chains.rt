@@ -45,6 +45,7 @@ impl<'m, T: Copy> Chains<'m, T> {
     }
 
     /// The node at `position` of chain `chain`, or 0 past its end.
+    // 0 past the end, as `after` answers: its clause says so, and a place that is passed on takes 0 for the front.
     pub fn node_at(&self, chain: usize, position: usize) -> usize
         requires { chain < length self.now.heads.now }
         ensures { result ≡ slice_index (nodes_of self.now.heads.now self.now.cells.now chain) position }

@@ -17,7 +17,7 @@ pub fn free_all<T: Copy>(heads: &mut [usize], cells: &mut [Cell<T>])
 {
     link_all(cells);
     heads.fill(0);
-    if cells.len() > 0 {
+    if !cells.is_empty() {
         heads[0] = 1;
     }
 }

@@ -1,5 +1,6 @@
 use Rattle.std.proofs.Common.{◌≡◌, ℕ, ◌+◌, ◌<◌, ◌≤◌, List, [], map, length, get_or, set, sym, ap, ◌∙◌, arith}
 use Rattle.std.proofs.lemmas.List.{get_or-replicate, length-map, length-set, get_or_past, get_or-set_same, get_or-set_other}
+use Rattle.std.proofs.lemmas.Bool.{eqb-true, eqb-false}
 use Rattle.chain.specs.declared.cells.Cell.{Cell}
 use Rattle.chain.specs.Lists.{up_to, Sound, nodes_of, free}
 use Rattle.chain.proofs.Elements.{sound_from}
@@ -20,8 +21,9 @@ made heads cells some first others each =
       free_all heads (map (λ x. x.next) cells) some first' others each' ∙ len,
     )
 
-pub returns-then-cells-gt0 : goal.returns-then-cells-gt0
-returns-then-cells-gt0 g c =
+pub returns-then-not-is_empty : goal.returns-then-not-is_empty
+returns-then-not-is_empty g c =
+    let some = eqb-false _ 0 (sym c.is_empty.ensures ∙ c.if-not-is_empty.true) in
     let kept = c.fill.ensures.len in
     let zero_at : (i : ℕ) → i < length c.args.heads.now → get_or c.fill.new.self i 0 ≡ 0 = λ i lt. ap (λ t. get_or t i 0) (c.fill.ensures.after (λ _ e. e)) ∙ get_or-replicate (length c.args.heads.now) i 0 0 lt in
     let size = length-set c.fill.new.self 0 1 in
@@ -31,8 +33,9 @@ returns-then-cells-gt0 g c =
     c.link_all.ensures in
     record { sound = all.0; empty = all.1; free = all.2 }
 
-pub returns-else-cells-gt0 : goal.returns-else-cells-gt0
-returns-else-cells-gt0 g c =
+pub returns-else-not-is_empty : goal.returns-else-not-is_empty
+returns-else-not-is_empty g c =
+    let zero = eqb-true _ 0 (sym c.is_empty.ensures ∙ c.if-not-is_empty.false) in
     let kept = c.fill.ensures.len in
     let zero_at : (i : ℕ) → i < length c.args.heads.now → get_or c.fill.new.self i 0 ≡ 0 = λ i lt. ap (λ t. get_or t i 0) (c.fill.ensures.after (λ _ e. e)) ∙ get_or-replicate (length c.args.heads.now) i 0 0 lt in
     let none : length (up_to (length c.link_all.new.cells)) ≤ 0 = omega (arith, length_up_to (length c.link_all.new.cells)) in
