@@ -1,2 +1,3 @@
 mod Tables
 mod Copying
+mod Inclusive

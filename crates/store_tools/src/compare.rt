@@ -28,13 +28,5 @@ fn same_table<A: Store, B: Store>(a: &A, b: &B, table: usize) -> bool
 pub fn same<A: Store, B: Store>(a: &A, b: &B) -> bool
     ensures { Decides result (A.meaning a.now ≡ B.meaning b.now) }
 {
-    if a.limit() != b.limit() {
-        return false;
-    }
-    for table in 1..=TABLES {
-        if !same_table(a, b, table) {
-            return false;
-        }
-    }
-    true
+    a.limit() == b.limit() && (1..=TABLES).all(|table| same_table(a, b, table))
 }

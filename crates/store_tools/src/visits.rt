@@ -9,7 +9,7 @@ use faults::Fault;
 use store::{Entry, Store};
 
 /// What takes rows one after another; `takes` says which state follows which when it takes a row.
-// With a closure in its place, what it leaves in a variable that it borrows is told to the caller only in names that may change.
+// A closure was tried: what it leaves in a variable that it borrows is told to the caller under a name of the checker's own, so no caller could prove what it counted.
 pub trait Visitor {
     ghost takes: { Self → Entry → Self → Type 0 };
 
