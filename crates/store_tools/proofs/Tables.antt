@@ -27,7 +27,3 @@ unequal a b r e =
           let k = keys.0 p.0 in let l = rows.0 p.1 in λ i. record { key = k i; row = l i },
       λ t q. let p = and_from (int_eq a.key b.key) (pointwise int_eq a.row b.row) (keys.1 (ap (λ x. x.key) q)) (rows.1 (ap (λ x. x.row) q)) in grind (arith, e, t, p),
     )
-
--- the tables below n are the same
-abbrev pub Same : Meaning → Meaning → ℕ → Type 0
-Same a b n = (u : ℕ) → is_table u ≡ true → u < n → a.tables u ≡ b.tables u

@@ -32,7 +32,7 @@ pub fn position<S: Store>(store: &S, table: usize, key: i32) -> Result<Option<us
     ensures { result ≡ position_of (S.meaning store.now) table key }
 {
     let rows = store.count(table)?;
-    // `find` by an equal key would read on behind a greater one, to the end of the table.
+    // `find` was tried, and its proof stays open; by an equal key it would read on behind a greater one, to the end of the table.
     for i in 0..rows {
         let found = store.key_at(table, i)?;
         match found.cmp(&key) {
