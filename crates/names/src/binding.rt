@@ -15,7 +15,7 @@ use lexer::name::Name;
 use roles::role::{Column, Declared, Part, Role, Use};
 
 /// The kind of a variable.
-// Not the checked model's `Kind`: that one's crate knows of no uses, and `From<Use>` has to stand beside a type of its own crate.
+// Not the checked model's `Kind`: that model stands apart from the text, so its crate knows of no uses in one, and `roles` knows of no model.
 #[derive(Clone, Copy, PartialEq, Eq)]
 pub enum Kind {
     Integer,
@@ -66,10 +66,7 @@ impl From<Use> for Kind {
 fn bind_table(number: Option<usize>) -> Bound
     ensures { result ≡ table_bound number }
 {
-    match number {
-        Some(number) => Bound::Table(number),
-        None => Bound::Unknown,
-    }
+    number.map_or(Bound::Unknown, Bound::Table)
 }
 
 impl Schema<'_> {
@@ -80,10 +77,8 @@ impl Schema<'_> {
         let Some(table) = table else {
             return Bound::Free;
         };
-        match self.field_place(table, name) {
-            Some(place) => Bound::Attribute(place),
-            None => Bound::Unknown,
-        }
+        self.field_place(table, name)
+            .map_or(Bound::Unknown, Bound::Attribute)
     }
 
     fn bind_declared(&self, scope: Scope, name: Name, of: Declared) -> Bound
@@ -142,6 +137,7 @@ impl Names {
     pub fn kind_at(&self, variable: usize) -> Kind
         ensures { result ≡ kind_at (names_of self.now).variables variable }
     {
+        // No `Option`: the clause promises Integer for a number that is no variable's.
         self.variables
             .get(variable)
             .map_or(Kind::Integer, |variable| variable.kind)
