@@ -169,28 +169,24 @@ impl Names {
     }
 
     /// A variable that was not used before.
-    fn use_first(&mut self, name: Name, kind: Kind, choice: Option<Choice>) -> Result<(), Fault>
-        ensures { MatchResult result (λ _. names_of self.new ≡ first_used (names_of self.old) name kind choice) (λ f. f ≡ Memory) }
+    fn use_first(&mut self, variable: Variable) -> Result<(), Fault>
+        ensures { MatchResult result (λ _. names_of self.new ≡ first_used (names_of self.old) variable.name variable.kind variable.choice) (λ f. f ≡ Memory) }
     {
         let number = self.variables.len();
-        self.variables.push(Variable { name, kind, choice })?;
+        self.variables.push(variable)?;
         self.bind_to(Bound::Variable(number))
     }
 
-    /// A use of a variable.
-    fn note(
-        &mut self,
-        text: &[u8],
-        name: Name,
-        kind: Kind,
-        choice: Option<Choice>,
-    ) -> Result<(), Fault>
-        ensures { MatchResult result (λ _. noted (names_of self.old) name kind choice (variable_place text.now (names_of self.old).variables name) ≡ Ok (names_of self.new)) (λ f. Fails f (noted (names_of self.old) name kind choice (variable_place text.now (names_of self.old).variables name))) }
+    /// A use of a variable, given as what it is where this is its first use.
+    fn note(&mut self, text: &[u8], variable: Variable) -> Result<(), Fault>
+        ensures { MatchResult result (λ _. noted (names_of self.old) variable.name variable.kind variable.choice (variable_place text.now (names_of self.old).variables variable.name) ≡ Ok (names_of self.new)) (λ f. Fails f (noted (names_of self.old) variable.name variable.kind variable.choice (variable_place text.now (names_of self.old).variables variable.name))) }
     {
-        match self.variable_place(text, name) {
-            Some(variable) => self.use_again(variable, choice),
-            None if self.variables.len() < MOST_VARIABLES => self.use_first(name, kind, choice),
-            None => Err(Fault::LimitPassed { place: name.place }),
+        match self.variable_place(text, variable.name) {
+            Some(number) => self.use_again(number, variable.choice),
+            None if self.variables.len() < MOST_VARIABLES => self.use_first(variable),
+            None => Err(Fault::LimitPassed {
+                place: variable.name.place,
+            }),
         }
     }
 
@@ -207,7 +203,14 @@ impl Names {
     {
         match schema.hidden_by(scope, name, of) {
             Some(place) => self.bind_to(Bound::Attribute(place)),
-            None => self.note(schema.text, name, of.into(), schema.choice_of(behind, of)),
+            None => {
+                let variable = Variable {
+                    name,
+                    kind: of.into(),
+                    choice: schema.choice_of(behind, of),
+                };
+                self.note(schema.text, variable)
+            }
         }
     }
 
