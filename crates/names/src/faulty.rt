@@ -129,6 +129,7 @@ impl Schema<'_> {
     fn is_picked(&self, first: Option<Choice>, name: Name) -> bool
         ensures { result ≡ is_picked (decl_of self.now) first name }
     {
+        // `is_some_and` on the first SELECT too says the same, but its proof didn't close.
         let Some(choice) = first else {
             return false;
         };
