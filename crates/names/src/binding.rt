@@ -15,7 +15,7 @@ use lexer::name::Name;
 use roles::role::{Column, Declared, Part, Role, Use};
 
 /// The kind of a variable.
-// Not the checked model's `Kind`: that one's crate knows of no uses, and `From<Use>` has to stand beside a type of its own crate.
+// Not the checked model's `Kind`: that model stands apart from the text, so its crate knows of no uses in one, and `roles` knows of no model.
 #[derive(Clone, Copy, PartialEq, Eq)]
 pub enum Kind {
     Integer,
@@ -66,10 +66,7 @@ impl From<Use> for Kind {
 fn bind_table(number: Option<usize>) -> Bound
     ensures { result ≡ table_bound number }
 {
-    match number {
-        Some(number) => Bound::Table(number),
-        None => Bound::Unknown,
-    }
+    number.map_or(Bound::Unknown, Bound::Table)
 }
 
 impl Schema<'_> {
@@ -80,10 +77,8 @@ impl Schema<'_> {
         let Some(table) = table else {
             return Bound::Free;
         };
-        match self.field_place(table, name) {
-            Some(place) => Bound::Attribute(place),
-            None => Bound::Unknown,
-        }
+        self.field_place(table, name)
+            .map_or(Bound::Unknown, Bound::Attribute)
     }
 
     fn bind_declared(&self, scope: Scope, name: Name, of: Declared) -> Bound
@@ -142,6 +137,7 @@ impl Names {
     pub fn kind_at(&self, variable: usize) -> Kind
         ensures { result ≡ kind_at (names_of self.now).variables variable }
     {
+        // No `Option`: the clause promises Integer for a number that is no variable's.
         self.variables
             .get(variable)
             .map_or(Kind::Integer, |variable| variable.kind)
@@ -173,28 +169,24 @@ impl Names {
     }
 
     /// A variable that was not used before.
-    fn use_first(&mut self, name: Name, kind: Kind, choice: Option<Choice>) -> Result<(), Fault>
-        ensures { MatchResult result (λ _. names_of self.new ≡ first_used (names_of self.old) name kind choice) (λ f. f ≡ Memory) }
+    fn use_first(&mut self, variable: Variable) -> Result<(), Fault>
+        ensures { MatchResult result (λ _. names_of self.new ≡ first_used (names_of self.old) variable.name variable.kind variable.choice) (λ f. f ≡ Memory) }
     {
         let number = self.variables.len();
-        self.variables.push(Variable { name, kind, choice })?;
+        self.variables.push(variable)?;
         self.bind_to(Bound::Variable(number))
     }
 
-    /// A use of a variable.
-    fn note(
-        &mut self,
-        text: &[u8],
-        name: Name,
-        kind: Kind,
-        choice: Option<Choice>,
-    ) -> Result<(), Fault>
-        ensures { MatchResult result (λ _. noted (names_of self.old) name kind choice (variable_place text.now (names_of self.old).variables name) ≡ Ok (names_of self.new)) (λ f. Fails f (noted (names_of self.old) name kind choice (variable_place text.now (names_of self.old).variables name))) }
+    /// A use of a variable, given as what it is where this is its first use.
+    fn note(&mut self, text: &[u8], variable: Variable) -> Result<(), Fault>
+        ensures { MatchResult result (λ _. noted (names_of self.old) variable.name variable.kind variable.choice (variable_place text.now (names_of self.old).variables variable.name) ≡ Ok (names_of self.new)) (λ f. Fails f (noted (names_of self.old) variable.name variable.kind variable.choice (variable_place text.now (names_of self.old).variables variable.name))) }
     {
-        match self.variable_place(text, name) {
-            Some(variable) => self.use_again(variable, choice),
-            None if self.variables.len() < MOST_VARIABLES => self.use_first(name, kind, choice),
-            None => Err(Fault::LimitPassed { place: name.place }),
+        match self.variable_place(text, variable.name) {
+            Some(number) => self.use_again(number, variable.choice),
+            None if self.variables.len() < MOST_VARIABLES => self.use_first(variable),
+            None => Err(Fault::LimitPassed {
+                place: variable.name.place,
+            }),
         }
     }
 
@@ -211,7 +203,14 @@ impl Names {
     {
         match schema.hidden_by(scope, name, of) {
             Some(place) => self.bind_to(Bound::Attribute(place)),
-            None => self.note(schema.text, name, of.into(), schema.choice_of(behind, of)),
+            None => {
+                let variable = Variable {
+                    name,
+                    kind: of.into(),
+                    choice: schema.choice_of(behind, of),
+                };
+                self.note(schema.text, variable)
+            }
         }
     }
 

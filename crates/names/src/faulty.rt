@@ -3,7 +3,7 @@ ghost use Rattle.std.specs.Prelude.{◌≡◌, ◌+◌, ◌^◌, ◌<◌, ◌≤
 ghost use Rattle.roles.specs.Roles.{name_of};
 ghost use Rattle.names.specs.Schema.{decl_of};
 ghost use Rattle.names.specs.Binding.{names_of};
-ghost use Rattle.names.specs.Faults.{declared_wrong, agrees_with, select_wrong, variable_wrong, commas_from, count_wrong, access_wrong, is_picked, column_wrong, wrong, spot_after, wrong_in};
+ghost use Rattle.names.specs.Faults.{declared_wrong, select_wrong, variable_wrong, commas_from, count_wrong, access_wrong, is_picked, column_wrong, wrong, spot_after, wrong_in};
 
 use super::binding::{Bound, Kind, Names};
 use super::schema::Schema;
@@ -21,11 +21,11 @@ pub struct Bindings<'a> {
 }
 
 /// How far the names are looked through: the tables declared, the attributes of the last one, the last variable bound.
-#[derive(Clone, Copy)]
+#[derive(Clone, Copy, Default)]
 pub struct Spot {
     pub tables: usize,
     pub fields: usize,
-    // 0 before the first: with an `Option` only v(a) would take it apart, and no text has that before a use of v.
+    // 0 before the first: `first_wrong` promises so for all parts, and an `Option` would promise another answer where v(a) comes first.
     pub cursor: usize,
 }
 
@@ -74,13 +74,6 @@ impl Choice {
     }
 }
 
-/// Whether a SELECT agrees with the first one into its variable: one table, and the same of its attributes.
-fn is_agreed(first: Option<Choice>, choice: Choice) -> bool
-    ensures { result ≡ agrees_with first choice }
-{
-    first == Some(choice)
-}
-
 /// How many commas stand before the next semicolon.
 fn commas(behind: &[Part]) -> usize
     ensures value { result ≡ commas_from 0 behind.now }
@@ -122,12 +115,12 @@ impl Schema<'_> {
         }
     }
 
-    /// Whether a SELECT into a known variable does not agree with the first.
+    /// Whether a SELECT into a known variable does not agree with the first one: one table, and the same of its attributes.
     fn is_select_wrong(&self, first: Option<Choice>, behind: &[Part], of: Use) -> bool
         ensures { result ≡ select_wrong (decl_of self.now) first behind.now of }
     {
         match of {
-            Use::Select => !is_agreed(first, self.choose(behind)),
+            Use::Select => first != Some(self.choose(behind)),
             _ => false,
         }
     }
@@ -136,13 +129,12 @@ impl Schema<'_> {
     fn is_picked(&self, first: Option<Choice>, name: Name) -> bool
         ensures { result ≡ is_picked (decl_of self.now) first name }
     {
+        // `is_some_and` on the first SELECT too says the same, but its proof didn't close.
         let Some(choice) = first else {
             return false;
         };
-        match self.place_in(choice.table, name) {
-            Some(place) => choice.has(place),
-            None => false,
-        }
+        self.place_in(choice.table, name)
+            .is_some_and(|place| choice.has(place))
     }
 }
 
@@ -191,11 +183,7 @@ impl Bindings<'_> {
     pub fn first_wrong(&self, parts: &[Part]) -> Option<usize>
         ensures { result ≡ wrong_in (decl_of self.now.schema.now) (names_of self.now.names.now) parts.now }
     {
-        let mut spot = Spot {
-            tables: 0,
-            fields: 0,
-            cursor: 0,
-        };
+        let mut spot = Spot::default();
         let mut left = parts;
         for bound in self.names.bounds.as_slice() {
             let (part, behind) = left.split_first()?;

@@ -2,14 +2,14 @@
 ghost use Rattle.std.specs.Prelude.{◌≡◌, ◌+◌, ◌^◌, ◌<◌, ◌≤◌, ◌∷◌, true, length, is_some, None, Ok, MatchResult};
 ghost use Rattle.names.specs.Schema.{decl_of};
 ghost use Rattle.names.specs.Binding.{names_of, bound_from, bound_in, Fails};
-ghost use Rattle.names.specs.Onward.{left_of, within, outside, Onward};
+ghost use Rattle.names.specs.Onward.{left_of, within, Onward};
 
 use super::binding::Names;
 use super::schema::Schema;
 use super::scope::{Clause, Scope};
 use faults::Fault;
 use lexer::signs::Sign;
-use roles::role::{Declared, Part, Role};
+use roles::role::Part;
 use std::alloc::Global;
 use terms::pull::Word;
 
@@ -28,22 +28,6 @@ impl Drop for Inside<'_> {
             scope: _,
             earlier: _,
         } = self;
-    }
-}
-
-/// One table more, where a part declares one.
-fn count_table(scope: Scope, role: Role) -> Scope
-    requires { scope.declared + 1 < 2 ^ 64 }
-    ensures { result ≡ outside scope role }
-{
-    let declared = if role == Role::Declared(Declared::Table) {
-        scope.declared + 1
-    } else {
-        scope.declared
-    };
-    Scope {
-        declared,
-        clause: None,
     }
 }
 
@@ -103,7 +87,7 @@ impl Names {
         ensures value { MatchResult result (λ ps. Onward (decl_of schema.now) scope.old (names_of self.old) (part ∷ behind.now) scope.new (names_of self.new) ps.now × (length ps.now ≤ length behind.now) × (scope.new.declared ≤ scope.old.declared + 1)) (λ f. Fails f (bound_from (decl_of schema.now) scope.old (names_of self.old) (part ∷ behind.now))) }
     {
         self.bind(schema, *scope, part, behind)?;
-        *scope = count_table(*scope, part.role);
+        *scope = scope.outside(part.role);
         match schema.open_clause(part, behind) {
             Some(clause) => self.bind_clause(schema, scope, clause, behind),
             None => Ok(behind),
@@ -120,10 +104,7 @@ pub fn resolve(heap: Global, schema: &Schema, parts: &[Part]) -> Result<Names, F
         variables: Vec::new(heap),
         bounds: Vec::new(heap),
     };
-    let mut scope = Scope {
-        declared: 0,
-        clause: None,
-    };
+    let mut scope = Scope::default();
     let mut left = parts;
     while let Some((part, behind)) = left.split_first() {
         left = names.bind_next(schema, &mut scope, *part, behind)?;

@@ -1,12 +1,13 @@
 //! Where a name stands: the tables declared before it, and the table of the clause around it.
-ghost use Rattle.std.specs.Prelude.{◌≡◌, find};
+ghost use Rattle.std.specs.Prelude.{◌≡◌, ◌+◌, ◌^◌, ◌<◌, find};
 ghost use Rattle.roles.specs.Roles.{name_of};
 ghost use Rattle.names.specs.Schema.{decl_of};
 ghost use Rattle.names.specs.Scopes.{from_is, last_number, table_around, table_behind, picking, place_in, picked_by, chosen, opened};
+ghost use Rattle.names.specs.Onward.{outside};
 
 use super::schema::Schema;
 use lexer::name::Name;
-use roles::role::{Access, Column, Part, Role, Use};
+use roles::role::{Access, Column, Declared, Part, Role, Use};
 
 /// How many attributes a table has at most.
 pub const MOST_FIELDS: usize = 8;
@@ -18,7 +19,7 @@ pub struct Clause {
 }
 
 /// Where a name stands: how many tables are declared so far, and the clause around it.
-#[derive(Clone, Copy)]
+#[derive(Clone, Copy, Default)]
 pub struct Scope {
     pub declared: usize,
     pub clause: Option<Clause>,
@@ -30,6 +31,7 @@ pub struct Scope {
 pub struct Choice {
     pub table: Option<usize>,
     pub picked: [bool; MOST_FIELDS],
+    // A bool and no enum: it only says whether.
     pub strange: bool,
 }
 
@@ -46,6 +48,22 @@ impl Scope {
         ensures { result ≡ table_around self.clause }
     {
         self.clause?.table
+    }
+
+    /// Outside of clauses, behind a part: one table more where the part declares one.
+    pub(crate) fn outside(self, role: Role) -> Scope
+        requires { self.declared + 1 < 2 ^ 64 }
+        ensures { result ≡ outside self role }
+    {
+        let declared = if role == Role::Declared(Declared::Table) {
+            self.declared + 1
+        } else {
+            self.declared
+        };
+        Scope {
+            declared,
+            clause: None,
+        }
     }
 }
 

@@ -7,32 +7,30 @@ use lexer::name::Name;
 use model_check::naming::{Read, read_names};
 use std::alloc::Global;
 
-/// The numbers that a read model has for a name: as a table, as an attribute of table 1, and as a variable.
-fn numbers(read: &Read, text: &[u8], name: Name) -> (Option<usize>, Option<usize>, Option<usize>) {
+/// What the names of a read model stand for.
+fn dictionary<'a>(read: &'a Read, text: &'a [u8]) -> Dictionary<'a> {
     let tables = TableNames {
         schema: read.tables.schema(text),
     };
-    let dictionary = Dictionary {
+    Dictionary {
         tables,
         names: &read.names,
-    };
+    }
+}
+
+/// The numbers that a read model has for a name: as a table, as an attribute of table 1, and as a variable.
+fn numbers(read: &Read, text: &[u8], name: Name) -> (Option<usize>, Option<usize>, Option<usize>) {
+    let dictionary = dictionary(read, text);
     (
-        tables.table_of(name),
-        tables.place_of(1, name),
+        dictionary.tables.table_of(name),
+        dictionary.tables.place_of(1, name),
         dictionary.variable_of(name),
     )
 }
 
 /// The place of the attribute of v(a) for two names of a read model.
 fn cell(read: &Read, text: &[u8], variable: Name, name: Name) -> Option<usize> {
-    let tables = TableNames {
-        schema: read.tables.schema(text),
-    };
-    let dictionary = Dictionary {
-        tables,
-        names: &read.names,
-    };
-    dictionary.cell_of(variable, name)
+    dictionary(read, text).cell_of(variable, name)
 }
 
 /// Whether the first name at fault of a model stands at a place.

@@ -19,7 +19,7 @@ returns-in-None-clause-value c =
     let p = c.args.part in
     let ps = c.args.behind.now in
     let t = names_of c.bind.new.self in
-    let counted = c.count_table.ensures in
+    let counted = c.outside.ensures in
     let after : scope_after d sc p ps ≡ outside sc p.role = begins d sc p ps c.requires.outside ∙ ap (λ o. record { declared = (outside sc p.role).declared; clause = o }) (sym c.in-None.ensures) in (
       record {
         same = bound_ok d sc (names_of c.args.self.now) p ps t c.in_ok-bind.ensures ∙ ap (λ s. bound_from d s t ps) (after ∙ sym counted);
@@ -36,10 +36,10 @@ returns-in-Some-clause-value c =
     let p = c.args.part in
     let ps = c.args.behind.now in
     let t = names_of c.bind.new.self in
-    let counted = c.count_table.ensures in
+    let counted = c.outside.ensures in
     let after : scope_after d sc p ps ≡ within (outside sc p.role) c.in-Some.clause = begins d sc p ps c.requires.outside ∙ ap (λ o. record { declared = (outside sc p.role).declared; clause = o }) (sym c.in-Some.ensures) in
     let start = bound_ok d sc (names_of c.args.self.now) p ps t c.in_ok-bind.ensures ∙ ap (λ s. bound_from d s t ps) (after ∙ ap (λ s. within s c.in-Some.clause) (sym counted)) in
-    let kept : left_of c.count_table.result ≡ c.bind_clause.new.scope = ap left_of counted ∙ sym counted ∙ sym c.bind_clause.ensures.scope in
+    let kept : left_of c.outside.result ≡ c.bind_clause.new.scope = ap left_of counted ∙ sym counted ∙ sym c.bind_clause.ensures.scope in
     MatchResult-weaker c.bind_clause.result c.bind_clause.ensures.value
     (λ e o. (
       record {
