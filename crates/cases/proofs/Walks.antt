@@ -24,9 +24,9 @@ one_out ok w (suc count) zero at e lt ne all = let is : w ≡ at = omega arith i
 one_out ok w (suc count) (suc j) at e lt ne all = cond-true _ _ _ (all w (omega arith) (omega arith)) ∙ one_out ok (suc w) count j at (omega arith) (omega arith) ne (λ k a b. all k (omega arith) b)
 
 -- What the first word out of its range answers, if there is one.
-pub out_told : (ok : ℕ → Bool) (n : ℕ) (r : Option ℕ) → MatchOption r ((k : ℕ) → 1 ≤ k → k < 19 + 9 * n → ok k ≡ true) (λ i. (1 ≤ i) × (i < 19 + 9 * n) × (ok i ≡ false) × ((k : ℕ) → 1 ≤ k → k < i → ok k ≡ true)) → MatchOption r (first_out ok 1 (18 + 9 * n) ≡ Ok tt) (λ i. (i < 19 + 9 * n) × (first_out ok 1 (18 + 9 * n) ≡ Err (BadCase (4 * i))))
-out_told ok n None all = none_out ok 1 (18 + 9 * n) (λ k a b. all k a (omega arith))
-out_told ok n (Some i) h = (h.1, one_out ok 1 (18 + 9 * n) (i - 1) i (omega (arith, h.0)) (omega (arith, h.0, h.1)) h.2 h.3)
+pub out_told : (ok : ℕ → Bool) (n last : ℕ) (r : Option ℕ) → MatchOption r ((k : ℕ) → 1 ≤ k → k < last → ok k ≡ true) (λ i. (1 ≤ i) × (i < last) × (ok i ≡ false) × ((k : ℕ) → 1 ≤ k → k < i → ok k ≡ true)) → last ≡ 19 + 9 * n → MatchOption r (first_out ok 1 (18 + 9 * n) ≡ Ok tt) (λ i. (i < 19 + 9 * n) × (first_out ok 1 (18 + 9 * n) ≡ Err (BadCase (4 * i))))
+out_told ok n last None all e = none_out ok 1 (18 + 9 * n) (λ k a b. all k a (omega arith))
+out_told ok n last (Some i) h e = (omega (arith, h.1), one_out ok 1 (18 + 9 * n) (i - 1) i (omega (arith, h.0)) (omega (arith, h.0, h.1)) h.2 h.3)
 
 -- ---- chains
 
