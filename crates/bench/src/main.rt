@@ -86,7 +86,7 @@ fn main(rt: HostRuntime) -> anyhow::Result<()> {
         case: Vec::new(heap),
     };
     let mut failed = false;
-    // The count shows that the loop ends: of lines that have ended once, as in a block, no contract says that they stay so.
+    // A count: `while let` was tried, and that it ends stays open, since no contract says that lines that have ended once, as in a block, stay so.
     for _ in 0..u64::MAX {
         let Some(line) = lines.next() else {
             break;

@@ -1,5 +1,5 @@
 -- The steps of the loops over words and chains.
-use Rattle.std.proofs.Common.{◌≡◌, ℕ, zero, suc, ◌+◌, ◌-◌, ◌*◌, ◌^◌, ◌<◌, ◌≤◌, Bool, true, false, cond, eqb, ltb, leb, List, [], ◌∷◌, ◌++◌, map, length, get_or, set, slice_get, Some, None, IfSome, Ok, Err, Option, Result, sym, refl, ap, ◌∙◌, inl, inr, add-one, arith}
+use Rattle.std.proofs.Common.{◌≡◌, ℕ, zero, suc, ◌+◌, ◌-◌, ◌*◌, ◌^◌, ◌<◌, ◌≤◌, Bool, true, false, cond, eqb, ltb, leb, List, [], ◌∷◌, ◌++◌, map, length, get_or, set, slice_get, Some, None, IfSome, Ok, Err, Option, MatchOption, Result, sym, refl, ap, ◌∙◌, inl, inr, add-one, arith}
 use Rattle.std.specs.Option.{option_map}
 use Rattle.std.proofs.lemmas.List.{length-map}
 use Rattle.std.proofs.lemmas.Bool.{cond-true, cond-false, cases_Bool, ltb-true, leb-true, lt-ltb, le-leb, and_from, and_parts}
@@ -12,20 +12,21 @@ use Rattle.cases.specs.Meaning.{◌then◌, case_verdict, numbers_from, lists_fr
 
 -- ---- words
 
--- One word is passed.
-pub out_more : (ok : ℕ → Bool) (w count : ℕ) → 0 < count → ok w ≡ true → first_out ok w count ≡ first_out ok (w + 1) (count - 1)
-out_more ok w zero h e = absurd (omega arith)
-out_more ok w (suc count) h e = cond-true _ _ _ e ∙ ap (λ k. first_out ok k count) (sym (add-one w)) ∙ ap (first_out ok (w + 1)) back where
-  back : count ≡ suc count - 1
-  back = omega arith
+-- All words are in their range.
+none_out : (ok : ℕ → Bool) (w count : ℕ) → ((k : ℕ) → w ≤ k → k < w + count → ok k ≡ true) → first_out ok w count ≡ Ok tt
+none_out ok w zero all = refl
+none_out ok w (suc count) all = cond-true _ _ _ (all w (omega arith) (omega arith)) ∙ none_out ok (suc w) count (λ k a b. all k (omega arith) (omega arith))
 
--- A word is out of its range.
-pub out_here : (ok : ℕ → Bool) (w count : ℕ) → 0 < count → ok w ≡ false → first_out ok w count ≡ Err (BadCase (4 * w))
-out_here ok w zero h e = absurd (omega arith)
-out_here ok w (suc count) h e = cond-false _ _ _ e
+-- A word is out of its range, and those before it are not.
+one_out : (ok : ℕ → Bool) (w count j at : ℕ) → at ≡ w + j → j < count → ok at ≡ false → ((k : ℕ) → w ≤ k → k < at → ok k ≡ true) → first_out ok w count ≡ Err (BadCase (4 * at))
+one_out ok w zero j at e lt ne all = absurd (omega arith)
+one_out ok w (suc count) zero at e lt ne all = let is : w ≡ at = omega arith in cond-false _ _ _ (ap ok is ∙ ne) ∙ ap (λ k. Err (BadCase (4 * k))) is
+one_out ok w (suc count) (suc j) at e lt ne all = cond-true _ _ _ (all w (omega arith) (omega arith)) ∙ one_out ok (suc w) count j at (omega arith) (omega arith) ne (λ k a b. all k (omega arith) b)
 
-pub out_none : (ok : ℕ → Bool) (w count : ℕ) → count ≡ 0 → first_out ok w count ≡ Ok tt
-out_none ok w count e = ap (first_out ok w) e
+-- What the first word out of its range answers, if there is one.
+pub out_told : (ok : ℕ → Bool) (n last : ℕ) (r : Option ℕ) → MatchOption r ((k : ℕ) → 1 ≤ k → k < last → ok k ≡ true) (λ i. (1 ≤ i) × (i < last) × (ok i ≡ false) × ((k : ℕ) → 1 ≤ k → k < i → ok k ≡ true)) → last ≡ 19 + 9 * n → MatchOption r (first_out ok 1 (18 + 9 * n) ≡ Ok tt) (λ i. (i < 19 + 9 * n) × (first_out ok 1 (18 + 9 * n) ≡ Err (BadCase (4 * i))))
+out_told ok n last None all e = none_out ok 1 (18 + 9 * n) (λ k a b. all k a (omega arith))
+out_told ok n last (Some i) h e = (omega (arith, h.1), one_out ok 1 (18 + 9 * n) (i - 1) i (omega (arith, h.0)) (omega (arith, h.0, h.1)) h.2 h.3)
 
 -- ---- chains
 

@@ -37,11 +37,9 @@ impl<'a> File<'a> {
     pub(crate) fn check_words(&self, tables: usize) -> Result<(), Fault>
         ensures { result ≡ out_of_range self.now.bytes.now tables self.now.records }
     {
-        for at in 1..HEAD + RECORD * self.records {
-            if !self.word_fits(tables, at) {
-                return Err(Fault::BadCase { place: 4 * at });
-            }
+        match (1..HEAD + RECORD * self.records).find(|at| !self.word_fits(tables, *at)) {
+            Some(at) => Err(Fault::BadCase { place: 4 * at }),
+            None => Ok(()),
         }
-        Ok(())
     }
 }

@@ -89,8 +89,7 @@ impl<'a> Case<'a> {
     pub fn list(&self, list: usize, position: usize) -> Option<i32>
         ensures { result ≡ list_item (shown self.now).lists list position }
     {
-        let lists = index_at(self.file.bytes, LISTS);
-        if !(1..=lists).contains(&list) {
+        if !(1..=self.lists()).contains(&list) {
             return None;
         }
         self.number(LISTS + list, position)

@@ -31,13 +31,11 @@ pub(crate) fn word_at(bytes: &[u8], at: usize) -> i32
     ensures { result ≡ word bytes.now at }
 {
     let (words, _) = bytes.as_chunks::<4>();
-    match words.get(at) {
-        Some(word) => i32::from_be_bytes(*word),
-        None => 0,
-    }
+    words.get(at).map_or(0, |word| i32::from_be_bytes(*word))
 }
 
 /// The word at a place as an index; one below 0 is none.
+// 0 and no `None`: the definition gives 0, which is no index, for a word below 0.
 pub(crate) fn index_at(bytes: &[u8], at: usize) -> usize
     ensures value { result ≡ index_of (word bytes.now at) }
     ensures small { result < 2 ^ 31 }

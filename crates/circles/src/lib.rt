@@ -46,7 +46,7 @@ impl<'a> Schema<'a> {
     fn has(&self, number: usize) -> bool
         ensures { MatchBool result (IsTable self.now.tables number) (IsTable self.now.tables number → ⊥) }
     {
-        0 < number && number <= self.tables && number <= TABLES
+        (1..=self.tables.min(TABLES)).contains(&number)
     }
 
     /// Whether a link leads on from a table, and both its ends are tables.

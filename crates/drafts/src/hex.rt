@@ -26,7 +26,7 @@ fn byte_of(high: u8, low: u8) -> Option<u8>
 pub fn hex_bytes(heap: Global, text: &[u8]) -> Result<Option<Vec<u8>>, AllocError>
     ensures { IfOk result (λ o. option_map vec_items o ≡ bytes_of text.now) }
 {
-    // The crate `hex` decodes too, but takes this module's name, and its errors would have to be sorted into none and no memory.
+    // The library's crate `hex` decodes too, but has this module's name, and want of memory is one of its own errors: each would be sorted here into `AllocError` or none.
     let mut bytes = Vec::new(heap);
     for pair in text.chunks(2) {
         let [high, low] = pair else {

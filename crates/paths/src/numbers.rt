@@ -38,12 +38,9 @@ pub(crate) fn read_number(line: &[u8], at: usize) -> Result<(u32, usize), Fault>
     ensures { result ≡ read_number (drop at line.now) at }
 {
     let rest = &line[at..];
-    let count = digits(rest);
-    if count == 0 {
-        return Err(Fault::BadPath { place: at });
+    match (digits(rest), rest) {
+        (0, _) => Err(Fault::BadPath { place: at }),
+        (_, [b'0', ..]) => Ok((0, at + 1)),
+        (count, _) => Ok((held_number(&rest[..count]), at + count)),
     }
-    if rest[0] == b'0' {
-        return Ok((0, at + 1));
-    }
-    Ok((held_number(&rest[..count]), at + count))
 }

@@ -15,7 +15,7 @@ pub fn write_path(heap: Global, marks: &[Mark]) -> Result<String, Fault>
     let mut text = String::new(heap);
     for (i, mark) in marks.iter().enumerate() {
         if i > 0 {
-            text.push_str(" ")?;
+            text.push(' ')?;
         }
         write!(text, "{mark}")?;
     }

@@ -1,27 +1,28 @@
-use Rattle.std.proofs.Common.{◌≡◌, ◌+◌, ◌-◌, ◌*◌, ◌<◌, sym, ap, ◌∙◌, arith}
-use Rattle.cases.specs.Ranges.{first_out, fits, out_of_range}
-use Rattle.cases.proofs.Walks.{out_more, out_here, out_none}
+use Rattle.std.proofs.Common.{◌≡◌, true, false, sym, arith, rules}
+use borrow.Author.Tests.{tests}
+use Rattle.std.proofs.lemmas.Iterator.{first_from_Range}
+use Rattle.cases.specs.Ranges.{fits, out_of_range}
+use Rattle.cases.proofs.Walks.{out_told}
 use Rattle.cases.proofs.file.File.check_words.Goals as goal
 
-pub loop-at-init : goal.loop-at-init
-loop-at-init c =
-    let same : 18 + 9 * c.args.self.now.records ≡ 19 + 9 * c.args.self.now.records - 1 = omega arith in
-    ap (first_out (fits c.args.self.now.bytes.now c.args.tables) 1) same
+pub overflow_mul-result : goal.overflow_mul-result
+overflow_mul-result c =
+    let ok = fits c.args.self.now.bytes.now c.args.tables in
+    let first = first_from_Range _ _ _ c.find.result (λ k. ok k ≡ false) (λ k. ok k ≡ true) c.find.ensures.ran (λ x q k. search (rules, tests)) (λ x q k. (search (rules, tests), search (rules, tests))) in
+    let told = rw c.in-Some.is at (out_told ok c.args.self.now.records _ c.find.result first (omega arith)) in
+    omega (arith, told.0, c.type_inv.self)
 
-pub returns-then-not-word_fits : goal.returns-then-not-word_fits
+pub returns-in-Some : goal.returns-in-Some
 unfolding out_of_range
-returns-then-not-word_fits c =
-    let more : 0 < 19 + 9 * c.args.self.now.records - c.loop-at.at = omega arith in
-    sym (c.loop-at.invariant ∙ out_here (fits c.args.self.now.bytes.now c.args.tables) c.loop-at.at (19 + 9 * c.args.self.now.records - c.loop-at.at) more (sym c.if-not-word_fits.ensures))
+returns-in-Some c =
+    let ok = fits c.args.self.now.bytes.now c.args.tables in
+    let first = first_from_Range _ _ _ c.find.result (λ k. ok k ≡ false) (λ k. ok k ≡ true) c.find.ensures.ran (λ x q k. search (rules, tests)) (λ x q k. (search (rules, tests), search (rules, tests))) in
+    let told = rw c.in-Some.is at (out_told ok c.args.self.now.records _ c.find.result first (omega arith)) in
+    sym told.1
 
-pub loop-at-preserved : goal.loop-at-preserved
-loop-at-preserved c =
-    let more : 0 < 19 + 9 * c.args.self.now.records - c.loop-at.at = omega arith in
-    let less : 19 + 9 * c.args.self.now.records - c.loop-at.at - 1 ≡ 19 + 9 * c.args.self.now.records - (c.loop-at.at + 1) = omega arith in
-    c.loop-at.invariant ∙ out_more (fits c.args.self.now.bytes.now c.args.tables) c.loop-at.at (19 + 9 * c.args.self.now.records - c.loop-at.at) more (sym c.if-not-word_fits.ensures) ∙ ap (first_out (fits c.args.self.now.bytes.now c.args.tables) (c.loop-at.at + 1)) less
-
-pub returns : goal.returns
+pub returns-in-None : goal.returns-in-None
 unfolding out_of_range
-returns c =
-    let none : 19 + 9 * c.args.self.now.records - c.loop-at.at ≡ 0 = omega arith in
-    sym (c.loop-at.invariant ∙ out_none (fits c.args.self.now.bytes.now c.args.tables) c.loop-at.at (19 + 9 * c.args.self.now.records - c.loop-at.at) none)
+returns-in-None c =
+    let ok = fits c.args.self.now.bytes.now c.args.tables in
+    let first = first_from_Range _ _ _ c.find.result (λ k. ok k ≡ false) (λ k. ok k ≡ true) c.find.ensures.ran (λ x q k. search (rules, tests)) (λ x q k. (search (rules, tests), search (rules, tests))) in
+    sym (rw c.in-None.is at (out_told ok c.args.self.now.records _ c.find.result first (omega arith)))
