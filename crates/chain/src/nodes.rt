@@ -25,11 +25,7 @@ impl<T: Copy> Iterator for Nodes<'_, T> {
             return None;
         }
         self.left -= 1;
-        // `map_or` was tried: what its closure answers is not known behind it.
-        self.node = match self.cells.get(node - 1) {
-            Some(cell) => cell.next,
-            None => 0,
-        };
+        self.node = self.cells.get(node - 1).map_or(0, |cell| cell.next);
         Some(node)
     }
 }
