@@ -52,6 +52,10 @@ free marks = sum_by open_one marks
 pub free_set : (marks : List Bool) (i : ℕ) → i < length marks → get_or marks i false ≡ false → free (set marks i true) + 1 ≡ free marks
 free_set marks i h e = omega (arith, sum_by-set open_one marks i true false h, ap open_one e)
 
+-- With no link nothing new is marked.
+pub marked_none : (tables a : ℕ) (marks : List Bool) → Marked tables [] a marks marks
+marked_none tables a marks = record { kept = λ t h. h; more = λ t s. absurd s.1; only = λ t h. inl h }
+
 step_more : (tables : ℕ) (links : List Link) (a t : ℕ) (l : Link) → Step tables links a t → Step tables (links ++ l ∷ []) a t
 step_more tables links a t l s = (s.0, in_left s.0 links (l ∷ []) s.1, s.2, s.3)
 
@@ -84,13 +88,4 @@ marked_more tables links a before after l m goes fits =
           (λ old. ⊎_elim (λ first. inl first) (λ s. inr (step_more tables links a t l s)) (m.only t old))
           (λ e. inr (l, in_last l links, goes, e))
           (has_parts after l.to t h);
-    }
-
--- A link that leads on to a marked table marks nothing new.
-pub marked_seen : (tables : ℕ) (links : List Link) (a : ℕ) (before after : List Bool) (l : Link) → Marked tables links a before after → Follows tables a l → Has after l.to → Marked tables (links ++ l ∷ []) a before after
-marked_seen tables links a before after l m goes seen =
-    record {
-      kept = m.kept;
-      more = λ t s. ⊎_elim (λ old. m.more t old) (λ new. subst (λ n. Has after n) new.1 seen) (step_parts tables links a t l s);
-      only = λ t h. ⊎_elim (λ old. inl old) (λ s. inr (step_more tables links a t l s)) (m.only t h);
     }

@@ -2,18 +2,20 @@
 use Rattle.std.specs.Prelude.{◌≡◌, ℕ, ◌<◌, Bool, true, false, ◌⊎◌, List, map, Some, None, Option, slice_index_or}
 use Rattle.circles.specs.declared.Link.{Link}
 use Rattle.circles.specs.declared.Mark.{Mark}
-use Rattle.circles.specs.declared.Mark.TheVariants.{Unseen, Reached, Taken}
+use Rattle.circles.specs.declared.Mark.TheVariants.{Unseen, Reached, Begun, Taken}
 use Rattle.circles.specs.Ways.{In, Follows}
 
 -- Of some marks, which tables are reached, and which are taken up.
 abbrev pub is_reached : Mark → Bool
 is_reached Unseen = false
 is_reached Reached = true
+is_reached Begun = false
 is_reached Taken = true
 
 abbrev pub is_taken : Mark → Bool
 is_taken Unseen = false
 is_taken Reached = false
+is_taken Begun = true
 is_taken Taken = true
 
 abbrev pub reached_of : List Mark → List Bool

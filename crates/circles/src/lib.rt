@@ -1,11 +1,10 @@
 //! Which table is the first that leads back to itself by one or more references.
 #![tactic(auto)]
 
-ghost use Rattle.std.specs.Prelude.{◌≡◌, ℕ, ◌<◌, ◌≤◌, true, false, Some, None, MatchBool, slice_set};
-ghost use Rattle.circles.specs.declared.Mark.TheVariants.{Taken};
+ghost use Rattle.std.specs.Prelude.{◌≡◌, ℕ, ◌<◌, ◌≤◌, true, false, Some, None, MatchBool, slice_set, slice_index_or};
 ghost use Rattle.circles.specs.Circles.{OnCircle, NoCircle, First, Answers};
 ghost use Rattle.circles.specs.Ways.{IsTable, Leads, Follows};
-ghost use Rattle.circles.specs.Visits.{Marked, Waits, reached_of, taken_of};
+ghost use Rattle.circles.specs.Visits.{Marked, Waits, is_reached, is_taken, reached_of, taken_of};
 
 /// The most tables that a schema has.
 pub const TABLES: usize = 8;
@@ -20,8 +19,39 @@ enum Mark {
     Unseen,
     /// It is reached, and its links are still to be followed.
     Reached,
+    /// Its links were followed, and no link was seen that leads to it: the start, until one does.
+    Begun,
     /// It is reached, and its links were followed.
     Taken,
+}
+
+impl Mark {
+    /// Whether a link was seen that leads to the table.
+    fn is_reached(self) -> bool
+        ensures { result ≡ is_reached self }
+    {
+        matches!(self, Mark::Reached | Mark::Taken)
+    }
+
+    /// The mark of a table that is taken up.
+    fn taken_up(self) -> Mark
+        ensures { (is_reached result ≡ is_reached self) × (is_taken result ≡ true) }
+    {
+        match self {
+            Mark::Unseen | Mark::Begun => Mark::Begun,
+            Mark::Reached | Mark::Taken => Mark::Taken,
+        }
+    }
+
+    /// The mark of a table to which a link leads.
+    fn led_to(self) -> Mark
+        ensures { (is_reached result ≡ true) × (is_taken result ≡ is_taken self) }
+    {
+        match self {
+            Mark::Unseen | Mark::Reached => Mark::Reached,
+            Mark::Begun | Mark::Taken => Mark::Taken,
+        }
+    }
 }
 
 /// A mark for each number, of which 0 is no table's.
@@ -56,14 +86,16 @@ impl<'a> Schema<'a> {
         link.from == table && self.has(link.from) && self.has(link.to)
     }
 
-    /// Marks each table that one link leads to from a table.
-    fn mark_ends(&self, table: usize, marks: &mut Marks)
-        ensures reached { Marked self.now.tables self.now.links.now table (reached_of marks.old) (reached_of marks.new) }
-        ensures taken { taken_of marks.new ≡ taken_of marks.old }
+    /// Takes up a table, which was not taken up before: marks each table that one link leads to from it.
+    fn take_up(&self, table: usize, marks: &mut Marks)
+        requires { (table < 9) × (slice_index_or (taken_of marks.old) table false ≡ false) }
+        ensures marks { Marked self.now.tables self.now.links.now table (reached_of marks.old) (reached_of marks.new) }
+        ensures takes { taken_of marks.new ≡ slice_set (taken_of marks.old) table true }
     {
+        marks[table] = marks[table].taken_up();
         for link in self.links {
-            if self.follows(table, *link) && marks[link.to] == Mark::Unseen {
-                marks[link.to] = Mark::Reached;
+            if self.follows(table, *link) {
+                marks[link.to] = marks[link.to].led_to();
             }
         }
     }
@@ -74,15 +106,11 @@ impl<'a> Schema<'a> {
         ensures { MatchBool result (Leads self.now.tables self.now.links.now start start) (Leads self.now.tables self.now.links.now start start → ⊥) }
     {
         let mut marks = [Mark::Unseen; NUMBERS];
-        self.mark_ends(start, &mut marks);
+        self.take_up(start, &mut marks);
         while let Some(table) = waiting(&marks) {
-            if table == start {
-                return true;
-            }
-            marks[table] = Mark::Taken;
-            self.mark_ends(table, &mut marks);
+            self.take_up(table, &mut marks);
         }
-        false
+        marks[start].is_reached()
     }
 }
 

@@ -1,4 +1,4 @@
-use Rattle.std.proofs.Common.{◌≡◌, length, false, get_or}
+use Rattle.std.proofs.Common.{◌≡◌, length}
 use Rattle.circles.specs.Visits.{reached_of, taken_of}
 use Rattle.circles.proofs.Closed.{Visited}
 use Rattle.circles.proofs.Marks.{free}
@@ -7,7 +7,6 @@ use Rattle.circles.proofs.Schema.leads_back.Given as goal
 abbrev pub invariant-loop-table : goal.invariant-loop-table
 invariant-loop-table l = record {
   visited : Visited l.self.tables l.self.links.now l.start (reached_of l.marks) (taken_of l.marks);
-  apart : get_or (taken_of l.marks) l.start false ≡ false;
   size : length l.marks ≡ 9;
 }
 

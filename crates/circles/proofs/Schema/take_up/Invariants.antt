@@ -1,6 +1,6 @@
 use Rattle.std.proofs.Common.{◌≡◌, length, take}
 use Rattle.circles.specs.Visits.{Marked, reached_of, taken_of}
-use Rattle.circles.proofs.Schema.mark_ends.Given as goal
+use Rattle.circles.proofs.Schema.take_up.Given as goal
 
 abbrev pub invariant-loop-link : goal.invariant-loop-link
 invariant-loop-link l = record {
