@@ -18,10 +18,11 @@ written s n = spelled s.schema.text.now n
 abbrev pub word_place : List (List ℕ) → List ℕ → Option ℕ
 word_place ws b = position (λ w. bytes_eq w b) ws
 
--- A table by its number from 1, 0 for none.
+-- A table by its number from 1.
 abbrev pub table_found : Decl → List ℕ → Option ℕ
 table_found d b = counted (word_place (map (λ t. spelled d.text t.title) d.tables) b)
 
+-- The same number, 0 for none.
 abbrev pub table_by : Decl → List ℕ → ℕ
 table_by d b = unwrap_or (table_found d b) 0
 
@@ -37,8 +38,11 @@ abbrev pub hides_by : Decl → ℕ → List ℕ → Bool
 hides_by d t b = is_some (field_by d t b)
 
 -- A variable by its number from 0, in the order of first use.
+abbrev pub variable_in : List ℕ → Names → List ℕ → Option ℕ
+variable_in text s b = word_place (map (λ v. spelled text v.name) s.variables) b
+
 abbrev pub variable_found : Decl → Names → List ℕ → Option ℕ
-variable_found d s b = word_place (map (λ v. spelled d.text v.name) s.variables) b
+variable_found d s b = variable_in d.text s b
 
 abbrev pub variable_by : Decl → Names → List ℕ → ℕ
 variable_by d s b = unwrap_or (variable_found d s b) 0

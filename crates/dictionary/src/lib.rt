@@ -2,9 +2,11 @@
 #![tactic(auto)]
 
 ghost use Rattle.std.specs.Prelude.{◌≡◌};
+ghost use Rattle.std.specs.Option.{unwrap_or};
+ghost use Rattle.lexer.specs.Names.{spelled};
 ghost use Rattle.names.specs.Schema.{decl_of};
 ghost use Rattle.names.specs.Binding.{names_of};
-ghost use Rattle.dictionary.specs.Dictionary.{written, table_found, field_by, hides_by, variable_found, choice_by, cell_in};
+ghost use Rattle.dictionary.specs.Dictionary.{written, table_found, table_by, field_by, place_by, hides_by, variable_in, variable_found, variable_by, choice_by, cell_in, cell_by};
 
 use lexer::name::Name;
 use names::binding::Names;
@@ -20,14 +22,16 @@ pub struct TableNames<'a> {
 impl TableNames<'_> {
     /// The number of the table of a name, from 1.
     pub fn table_of(&self, name: Name) -> Option<usize>
-        ensures { result ≡ table_found (decl_of self.now.schema) (written self.now name) }
+        ensures found { result ≡ table_found (decl_of self.now.schema) (written self.now name) }
+        ensures number { unwrap_or result 0 ≡ table_by (decl_of self.now.schema) (written self.now name) }
     {
         self.schema.table_number(name)
     }
 
     /// The place, from 0, of an attribute in table `table`.
     pub fn place_of(&self, table: usize, name: Name) -> Option<usize>
-        ensures { result ≡ field_by (decl_of self.now.schema) table (written self.now name) }
+        ensures found { result ≡ field_by (decl_of self.now.schema) table (written self.now name) }
+        ensures number { unwrap_or result 0 ≡ place_by (decl_of self.now.schema) table (written self.now name) }
     {
         self.schema.field_place(table, name)
     }
@@ -40,6 +44,13 @@ impl TableNames<'_> {
     }
 }
 
+/// The number of the variable of a name in a text, from 0. It asks for no tables.
+pub fn variable_of(text: &[u8], names: &Names, name: Name) -> Option<usize>
+    ensures { result ≡ variable_in text.now (names_of names.now) (spelled text.now name) }
+{
+    names.variable_place(text, name)
+}
+
 /// What all names of a text stand for.
 #[derive(Clone, Copy)]
 pub struct Dictionary<'a> {
@@ -50,10 +61,10 @@ pub struct Dictionary<'a> {
 impl Dictionary<'_> {
     /// The number of the variable of a name, from 0.
     pub fn variable_of(&self, name: Name) -> Option<usize>
-        ensures { result ≡ variable_found (decl_of self.now.tables.schema) (names_of self.now.names.now) (written self.now.tables name) }
+        ensures found { result ≡ variable_found (decl_of self.now.tables.schema) (names_of self.now.names.now) (written self.now.tables name) }
+        ensures number { unwrap_or result 0 ≡ variable_by (decl_of self.now.tables.schema) (names_of self.now.names.now) (written self.now.tables name) }
     {
-        let text = self.tables.schema.text;
-        self.names.variable_place(text, name)
+        variable_of(self.tables.schema.text, self.names, name)
     }
 
     /// What the first SELECT into a variable chooses; a name that is no variable's is read as the first variable's.
@@ -67,7 +78,8 @@ impl Dictionary<'_> {
 
     /// The place of the attribute of v(a) in the table that v is selected from.
     pub fn cell_of(&self, variable: Name, name: Name) -> Option<usize>
-        ensures { result ≡ cell_in (decl_of self.now.tables.schema) (choice_by (decl_of self.now.tables.schema) (names_of self.now.names.now) (written self.now.tables variable)) (written self.now.tables name) }
+        ensures found { result ≡ cell_in (decl_of self.now.tables.schema) (choice_by (decl_of self.now.tables.schema) (names_of self.now.names.now) (written self.now.tables variable)) (written self.now.tables name) }
+        ensures number { unwrap_or result 0 ≡ cell_by (decl_of self.now.tables.schema) (names_of self.now.names.now) (written self.now.tables variable) (written self.now.tables name) }
     {
         self.tables.place_of(self.choice_of(variable)?.table?, name)
     }

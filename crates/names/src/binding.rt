@@ -123,6 +123,23 @@ impl Schema<'_> {
 /// The most variables that a model has.
 pub const MOST_VARIABLES: usize = 32;
 
+/// The kind of a variable by its number; one that there is not counts as an integer.
+pub fn kind_at(variables: &[Variable], variable: usize) -> Kind
+    ensures { result ≡ kind_at variables.now variable }
+{
+    // No `Option`: the clause promises Integer for a number that is no variable's.
+    variables
+        .get(variable)
+        .map_or(Kind::Integer, |variable| variable.kind)
+}
+
+/// What the first SELECT into a variable chooses, by the variable's number.
+pub fn choice_at(variables: &[Variable], variable: usize) -> Option<Choice>
+    ensures { result ≡ choice_at variables.now variable }
+{
+    variables.get(variable)?.choice
+}
+
 impl Names {
     /// The number of the variable with a name.
     pub fn variable_place(&self, text: &[u8], name: Name) -> Option<usize>
@@ -133,21 +150,18 @@ impl Names {
             .position(|variable| is_same(text, variable.name, name))
     }
 
-    /// The kind of a variable by its number; one that there is not counts as an integer.
+    /// The kind of a variable by its number, as `kind_at` of the variables tells it.
     pub fn kind_at(&self, variable: usize) -> Kind
         ensures { result ≡ kind_at (names_of self.now).variables variable }
     {
-        // No `Option`: the clause promises Integer for a number that is no variable's.
-        self.variables
-            .get(variable)
-            .map_or(Kind::Integer, |variable| variable.kind)
+        kind_at(self.variables.as_slice(), variable)
     }
 
-    /// What the first SELECT into a variable chooses, by the variable's number.
+    /// What the first SELECT into a variable chooses, as `choice_at` of the variables tells it.
     pub fn choice_at(&self, variable: usize) -> Option<Choice>
         ensures { result ≡ choice_at (names_of self.now).variables variable }
     {
-        self.variables.get(variable)?.choice
+        choice_at(self.variables.as_slice(), variable)
     }
 
     /// One part more is bound.

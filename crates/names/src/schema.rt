@@ -54,7 +54,7 @@ fn title_among(text: &[u8], tables: &[Table], name: Name) -> Option<usize>
         .position(|table| is_same(text, table.title, name))
 }
 
-impl Schema<'_> {
+impl<'a> Schema<'a> {
     /// The number of the table with a name, from 1; of two with one name the first.
     pub fn table_number(&self, name: Name) -> Option<usize>
         ensures { result ≡ table_number (decl_of self.now) name }
@@ -64,14 +64,14 @@ impl Schema<'_> {
     }
 
     /// Table `table`, which is counted from 1.
-    pub fn table(&self, table: usize) -> Option<&Table>
+    pub fn table(&self, table: usize) -> Option<&'a Table>
         ensures { option_map (λ t. table_of t.now) result ≡ table_numbered (decl_of self.now) table }
     {
         self.tables.get(table.checked_sub(1)?)
     }
 
     /// The names of the attributes of table `table`, which is counted from 1; no other number has any.
-    pub fn fields(&self, table: usize) -> &[Name]
+    pub fn fields(&self, table: usize) -> &'a [Name]
         ensures { result.now ≡ fields_of (decl_of self.now) table }
     {
         match self.table(table) {
