@@ -40,6 +40,14 @@ storing_none R rows none =
     [ true ↦ (λ e. let h = table_from t e in none t h.0 h.1) | false ↦ (λ _. refl) ] in
     λ i. record { limit = R; tables = fun_ext (λ t. each t (is_table t) refl) i }
 
+-- No rows are a store's.
+pub kept_none : (R : ℕ) (rows : ℕ → List Entry) → is_limit R ≡ true → ((t : ℕ) → 1 ≤ t → t ≤ 8 → rows t ≡ []) → Kept R rows
+kept_none R rows l none = record {
+  limited = l;
+  ascends = λ t a b. ap ascending (none t a b);
+  within = λ t a b. subst (λ r. length r ≤ R) (sym (none t a b)) zero-le;
+}
+
 -- table t of the store
 module _ (R : ℕ) (rows : ℕ → List Entry) (t : ℕ) (from : 1 ≤ t) (to : t ≤ 8) where
   pub counted : (n : ℕ) → n ≡ length (rows t) → Ok n ≡ count_of (storing R rows) t
