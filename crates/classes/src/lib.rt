@@ -29,5 +29,7 @@ pub enum Class {
 pub fn class_of(byte: u8) -> Class
     ensures { result ≡ class_of byte }
 {
-    CLASSES[byte as usize]
+    // Lent: an entry of the table by its name alone copies the whole table at each call.
+    let classes = &CLASSES;
+    classes[byte as usize]
 }
