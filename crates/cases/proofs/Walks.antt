@@ -137,6 +137,16 @@ chain_index b n (suc most) i k j e =
       first zero p t more = let lo = ltb-true 0 i t.0 in let hi = leb-true i n t.1 in let same : i ≡ j = cc in (omega arith, omega arith)
       first (suc k) p t more = more k p
 
+-- No record stands at a position past the most that are asked for.
+pub chain_past : (b : List ℕ) (n most i k : ℕ) → most ≤ k → item (chain b n most i) k ≡ None
+chain_past b n zero i k h = refl
+chain_past b n (suc most) i zero h = absurd (omega arith)
+chain_past b n (suc most) i (suc k) h =
+    elim (cases_Bool (is_index n i)) [
+      | inl t ↦ ap (λ l. item l (suc k)) (cond-true _ _ _ t) ∙ chain_past b n most (pointer b (record_word i)) k (omega arith)
+      | inr f ↦ ap (λ l. item l (suc k)) (cond-false _ _ _ f)
+    ]
+
 pub item_index : (b : List ℕ) (n w k : ℕ) (r : Option ℕ) → n ≤ 1024 → r ≡ item (chain_from b n w) k → IfSome r (λ i. (0 < i) × (i < 2 ^ 31))
 item_index b n w k None few e = tt
 item_index b n w k (Some i) few e = let index = chain_index b n n (pointer b w) k i (sym e) in (index.0, omega arith)

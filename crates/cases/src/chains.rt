@@ -79,6 +79,10 @@ impl<'a> File<'a> {
         ensures value { result ≡ item (chain_from self.now.bytes.now self.now.records head) position }
         ensures index { IfSome result (λ i. (0 < i) × (i < 2 ^ 31)) }
     {
+        // No chain goes past all records: a position beyond them is answered at once, with no walk to the end.
+        if position >= self.records {
+            return None;
+        }
         let link = self.trail(head, self.records).nth(position);
         link.map(|(_, record)| record)
     }

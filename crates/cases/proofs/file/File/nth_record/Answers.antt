@@ -1,9 +1,9 @@
-use Rattle.std.proofs.Common.{◌≡◌, ◌∙◌, rules}
+use Rattle.std.proofs.Common.{◌≡◌, ◌∙◌, sym, rules}
 use Rattle.std.specs.Option.{option_map}
 use Rattle.std.proofs.lemmas.Iterator.Consumers.{YieldsList-from_first, nth_from_yields_List}
-use Rattle.cases.specs.Chains.{item, chain_from}
+use Rattle.cases.specs.Chains.{item, chain_from, pointer}
 use Rattle.cases.specs.Trails.{trail_left}
-use Rattle.cases.proofs.Walks.{trail_item, item_index}
+use Rattle.cases.proofs.Walks.{trail_item, item_index, chain_past}
 use Rattle.cases.proofs.file.File.nth_record.Goals as goal
 use Rattle.cases.proofs.file.File.nth_record.Goals.{After-map}
 
@@ -16,3 +16,8 @@ found c =
 
 pub returns : goal.returns
 returns c = record { value = found c; index = item_index c.args.self.now.bytes.now c.args.self.now.records c.args.head c.args.position c.map.result c.args.self.now.few (found c) }
+
+pub returns-then-position-self : goal.returns-then-position-self
+returns-then-position-self c =
+    let self = c.args.self.now in
+    record { value = sym (chain_past self.bytes.now self.records self.records (pointer self.bytes.now c.args.head) c.args.position c.if-position-self.true); index = tt }
