@@ -6,7 +6,7 @@ use anyhow::anyhow;
 use console::{Command, read_command};
 use drafts::hex::hex_bytes;
 use drafts::text::case_bytes;
-use input::{Lines, lines_of, read_block};
+use input::{Lines, lines_of};
 use std::alloc::Global;
 use syntax::whole::check_form;
 
@@ -54,18 +54,25 @@ impl Bench {
         }
     }
 
-    /// Answers a line, with its block where it has one; `None` where the line asks for nothing.
-    fn answer(&mut self, line: &[u8], lines: &mut Lines) -> anyhow::Result<Option<Answer>> {
-        let answer = match read_command(line) {
-            Command::Pass => return Ok(None),
-            Command::Model => answer_model(read_block(lines, self.heap)?.as_slice()),
-            Command::Path => self.answer_path(line)?,
-            Command::Case => self.answer_case(read_block(lines, self.heap)?.as_slice()),
-            Command::CaseHex => self.answer_hex(line)?,
-            Command::Conditions | Command::Judge => Answer::NotYet,
-            Command::Unknown => Answer::Unknown,
-        };
-        Ok(Some(answer))
+    /// Answers the next line that asks for something, with its block where it has one; `None` once the input has ended.
+    fn next_answer(&mut self, lines: &mut Lines) -> anyhow::Result<Option<Answer>> {
+        // A count here and in `main`: that a reader's lines end is in no contract.
+        for _ in 0..u64::MAX {
+            let Some(line) = lines.next()? else {
+                break;
+            };
+            let answer = match read_command(line) {
+                Command::Pass => continue,
+                Command::Model => answer_model(lines.read_block(self.heap)?.as_slice()),
+                Command::Path => self.answer_path(line)?,
+                Command::Case => self.answer_case(lines.read_block(self.heap)?.as_slice()),
+                Command::CaseHex => self.answer_hex(line)?,
+                Command::Conditions | Command::Judge => Answer::NotYet,
+                Command::Unknown => Answer::Unknown,
+            };
+            return Ok(Some(answer));
+        }
+        Ok(None)
     }
 }
 
@@ -86,15 +93,12 @@ fn main(rt: HostRuntime) -> anyhow::Result<()> {
         case: Vec::new(heap),
     };
     let mut failed = false;
-    // A count: `while let` was tried, and that it ends stays open, since no contract says that lines that have ended once, as in a block, stay so.
     for _ in 0..u64::MAX {
-        let Some(line) = lines.next() else {
+        let Some(answer) = bench.next_answer(&mut lines)? else {
             break;
         };
-        if let Some(answer) = bench.answer(line?.as_slice(), &mut lines)? {
-            println!(rt; "{answer}")?;
-            failed |= answer.is_error();
-        }
+        println!(rt; "{answer}")?;
+        failed |= answer.is_error();
     }
     if failed {
         return Err(anyhow!("a command was answered with an error"));

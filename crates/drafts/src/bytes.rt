@@ -1,7 +1,7 @@
 //! A case from its lines: its records in the order written, and the bytes of its file.
 ghost use Rattle.std.specs.Prelude.{◌≤◌, ◌<◌, vec_len, IfSome};
 
-use super::line::{Line, LineFault, read_line};
+use super::line::{Line, LineFault, read_line, read_numbers, read_rest};
 use std::alloc::{AllocError, Global};
 
 /// The most records of a case file.
@@ -98,18 +98,19 @@ impl Draft {
         Ok(())
     }
 
-    /// Adds a record for each number.
-    fn add_numbers(&mut self, chain: Chain, numbers: &[i32]) -> Result<(), LineFault> {
-        for number in numbers {
-            self.add(chain, &[*number])?;
+    /// Adds a record for each number behind a line's first word.
+    fn add_numbers(&mut self, chain: Chain, rest: &[u8]) -> Result<(), LineFault> {
+        for number in read_rest(*self.records.allocator(), rest)? {
+            self.add(chain, &[number])?;
         }
         Ok(())
     }
 
     /// Adds a row of the table that stands above it.
-    fn add_row(&mut self, numbers: &[i32]) -> Result<(), LineFault> {
+    fn add_row(&mut self, line: &[u8]) -> Result<(), LineFault> {
         let table = self.table.ok_or(LineFault::Bad)?;
-        self.add(Chain::Rows(table), numbers)
+        let numbers = read_numbers(*self.records.allocator(), line)?;
+        self.add(Chain::Rows(table), numbers.as_slice())
     }
 
     /// Refuses a chain that has records already.
@@ -122,22 +123,22 @@ impl Draft {
 
     /// Takes a line. Rows follow their table at once, so each chain's records stand side by side.
     pub(crate) fn take_line(&mut self, line: &[u8]) -> Result<(), LineFault> {
-        match read_line(*self.records.allocator(), line)? {
-            Line::Row(numbers) => self.add_row(numbers.as_slice()),
+        match read_line(line)? {
+            Line::Row(line) => self.add_row(line),
             Line::Table(table) => {
                 self.check_new(Chain::Rows(table))?;
                 self.table = Some(table);
                 Ok(())
             }
-            Line::Reads(numbers) => {
+            Line::Reads(rest) => {
                 self.check_new(Chain::Reads)?;
                 self.table = None;
-                self.add_numbers(Chain::Reads, numbers.as_slice())
+                self.add_numbers(Chain::Reads, rest)
             }
-            Line::List(numbers) if self.lists < HEADS => {
+            Line::List(rest) if self.lists < HEADS => {
                 self.lists += 1;
                 self.table = None;
-                self.add_numbers(Chain::List(self.lists), numbers.as_slice())
+                self.add_numbers(Chain::List(self.lists), rest)
             }
             Line::List(_) => Err(LineFault::Bad),
         }
