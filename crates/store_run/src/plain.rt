@@ -37,12 +37,12 @@ impl Plain {
             .binary_search_by_key(&(table, key), |placed| (placed.table, placed.entry.key))
     }
 
-    /// The entry at a position of a table.
+    /// The entry at a position of a table, whose rows stand together from the place on that its least key would have.
     fn entry_at(&self, table: usize, position: usize) -> Result<Entry, Fault> {
+        let (Ok(first) | Err(first)) = self.find(table, i32::MIN);
         self.rows
-            .iter()
+            .get(first.saturating_add(position))
             .filter(|placed| placed.table == table)
-            .nth(position)
             .map(|placed| placed.entry)
             .ok_or(Fault::NotThere { table })
     }
@@ -59,12 +59,16 @@ impl Tables for Plain {
         )
     }
 
-    fn key_at(&self, table: usize, position: usize) -> Result<i32, Fault> {
-        Ok(self.entry_at(table, position)?.key)
-    }
-
-    fn row_at(&self, table: usize, position: usize) -> Result<[i32; WIDTH], Fault> {
-        Ok(self.entry_at(table, position)?.row)
+    fn at(
+        &self,
+        table: usize,
+        position: usize,
+    ) -> (Result<i32, Fault>, Result<[i32; WIDTH], Fault>) {
+        // Both from one look.
+        match self.entry_at(table, position) {
+            Ok(entry) => (Ok(entry.key), Ok(entry.row)),
+            Err(fault) => (Err(fault), Err(fault)),
+        }
     }
 
     fn put(&mut self, table: usize, key: i32, row: [i32; WIDTH]) -> Result<(), Fault> {

@@ -6,9 +6,12 @@ use store::{Store, WIDTH};
 pub trait Tables {
     fn count(&self, table: usize) -> Result<usize, Fault>;
 
-    fn key_at(&self, table: usize, position: usize) -> Result<i32, Fault>;
-
-    fn row_at(&self, table: usize, position: usize) -> Result<[i32; WIDTH], Fault>;
+    /// What is answered for the key at a position and for the row there.
+    fn at(
+        &self,
+        table: usize,
+        position: usize,
+    ) -> (Result<i32, Fault>, Result<[i32; WIDTH], Fault>);
 
     fn put(&mut self, table: usize, key: i32, row: [i32; WIDTH]) -> Result<(), Fault>;
 
@@ -20,12 +23,12 @@ impl<S: Store> Tables for S {
         Store::count(self, table)
     }
 
-    fn key_at(&self, table: usize, position: usize) -> Result<i32, Fault> {
-        Store::key_at(self, table, position)
-    }
-
-    fn row_at(&self, table: usize, position: usize) -> Result<[i32; WIDTH], Fault> {
-        Store::row_at(self, table, position)
+    fn at(
+        &self,
+        table: usize,
+        position: usize,
+    ) -> (Result<i32, Fault>, Result<[i32; WIDTH], Fault>) {
+        (self.key_at(table, position), self.row_at(table, position))
     }
 
     fn put(&mut self, table: usize, key: i32, row: [i32; WIDTH]) -> Result<(), Fault> {
@@ -78,10 +81,7 @@ impl Step {
 pub fn same_table<A: Tables, B: Tables>(a: &A, b: &B, table: usize) -> bool {
     let count = a.count(table);
     b.count(table) == count
-        && (0..=count.unwrap_or(0)).all(|position| {
-            a.key_at(table, position) == b.key_at(table, position)
-                && a.row_at(table, position) == b.row_at(table, position)
-        })
+        && (0..=count.unwrap_or(0)).all(|position| a.at(table, position) == b.at(table, position))
 }
 
 /// How many steps there were, how often each answer came, and how often something was not the same.
